@@ -1,0 +1,4 @@
+pub mod Numbered
+pub mod Following
+pub mod Booked
+pub mod Exactly

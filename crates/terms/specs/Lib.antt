@@ -1,0 +1,6 @@
+pub mod Terms
+pub mod Rows
+pub mod Faults
+pub mod Books
+pub mod Adding
+pub mod Standing
