@@ -1,26 +1,14 @@
 ghost use mathlib.Core.Path.{_≡_};
-ghost use mathlib.Core.List.{[]};
 ghost use mathlib.Core.Bool.{true};
 ghost use Prim.Native.Nat.{_≤_};
-ghost use Rattle.std.specs.Of.Vec.{vec-cap, vec-items, vec-len};
-ghost use Rattle.refusals.specs.Tables.{decided};
-ghost use Rattle.terms.specs.Rows.{is-row, row-at};
-ghost use Rattle.terms.specs.Books.{unfit, is-book};
-ghost use Rattle.terms.specs.Adding.{Added};
-ghost use Rattle.terms.specs.Standing.{Exact};
-use crate::faults::BookFault;
-use crate::faults::BookFaultFromRefused;
-use crate::row::Item;
+ghost use Rattle.std.specs.Of.Vec.{vec-items, vec-len};
+ghost use Rattle.terms.specs.Books.{is-book};
 use crate::row::Row;
-use crate::row::RowSame;
-use earliest::earliest_place;
-use std::alloc::Global;
+
+mod calls;
 
 /// The most rows that a theory's book has.
 pub const MAX_ROWS: usize = 512;
-
-/// The variables are 0 to 23.
-const VARIABLES: u8 = 24;
 
 /// A theory's book: rows whose parts are earlier rows and whose keys are items, no two of them equal.
 #[derive(Drop)]
@@ -28,87 +16,4 @@ pub struct Book {
     rows: Vec<Row>,
     ghost few: { vec-len rows ≤ 512 },
     ghost sound: { is-book (vec-items rows) ≡ true },
-}
-
-impl Book {
-    /// A book without rows.
-    pub fn new(heap: Global) -> Self
-        ensures { λ r. ⌜ vec-items (r .rows) ≡ [] ⌝ }
-    {
-        Book {
-            rows: Vec::new(heap),
-        }
-    }
-
-    /// The row with the number, counted from 1; `None` at 0 and past the last.
-    ///
-    /// Each row stands for exactly one term, and no two rows for the same.
-    pub fn row(&self, number: usize) -> Option<Row>
-        ensures value { λ r. ⌜ r ≡ row-at (vec-items (now (self .entry) .rows)) number ⌝ }
-        ensures exact { λ _. ⌜ Exact (vec-items (now (self .entry) .rows)) ⌝ }
-    {
-        if self.has(number) {
-            Some(self.rows[number - 1])
-        } else {
-            None
-        }
-    }
-
-    /// The number of the row, which is added where it is new.
-    ///
-    /// It is refused, the lowest number first: 1 an item out of range, 2 a part or a key that is
-    /// no row, 3 a key that is no item, 4 a new row where the book is full; 0 where the memory
-    /// for a new row is wanting. A refusal leaves the book as it was.
-    pub fn add(&mut self, row: Row) -> Result<usize, BookFault>
-        ensures { λ r. ⌜ Added (vec-items (now (self .entry) .rows)) (vec-cap (now (self .entry) .rows)) row (vec-items (now (self .exit) .rows)) r ⌝ }
-    {
-        self.admit(row)?;
-        if let Some(place) = earliest_place(self.rows.as_slice(), &row) {
-            return Ok(place + 1);
-        }
-        if self.rows.len() >= MAX_ROWS {
-            return Err(BookFault::Full);
-        }
-        self.rows.push(row)?;
-        Ok(self.rows.len())
-    }
-
-    /// Whether the row may stand in the book, be it new or not.
-    fn admit(&self, row: Row) -> Result<(), BookFault>
-        ensures { λ r. ⌜ r ≡ decided (unfit (vec-items (now (self .entry) .rows)) row) (tt {0}) ⌝ }
-    {
-        match row {
-            Row::Item(Item::Name(name)) => {
-                if name == 0 {
-                    return Err(BookFault::OutOfRange);
-                }
-            }
-            Row::Item(Item::Variable(variable)) => {
-                if variable >= VARIABLES {
-                    return Err(BookFault::OutOfRange);
-                }
-            }
-            Row::Pair(first, second) => {
-                if !self.has(first) || !self.has(second) {
-                    return Err(BookFault::PartMissing);
-                }
-            }
-            Row::Seal { content, key } | Row::Lock { content, key } => {
-                if !self.has(content) || !self.has(key) {
-                    return Err(BookFault::PartMissing);
-                }
-                let Some(Row::Item(_)) = self.row(key) else {
-                    return Err(BookFault::KeyNotItem);
-                };
-            }
-        }
-        Ok(())
-    }
-
-    /// Whether there is a row with the number.
-    fn has(&self, number: usize) -> bool
-        ensures { λ r. ⌜ r ≡ is-row (vec-len (now (self .entry) .rows)) number ⌝ }
-    {
-        0 < number && number <= self.rows.len()
-    }
 }

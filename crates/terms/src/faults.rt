@@ -1,9 +1,8 @@
 ghost use mathlib.Core.Path.{_≡_};
-ghost use Rattle.terms.specs.Faults.{refusal-of};
+ghost use Rattle.terms.specs.Faults.{refusal-of, reason-of};
 ghost use Rattle.terms.specs.declared.faults.BookFault.the-variants.{NoMemory};
 use refusals::Refusal;
 use std::alloc::Refused;
-use std::fmt;
 
 /// Why a row was not added.
 #[derive(Clone, Copy, PartialEq, Eq)]
@@ -41,19 +40,18 @@ impl BookFault {
             row: 0,
         }
     }
-}
 
-/// The reason in words.
-pub impl fmt::Display for BookFault as BookFaultDisplay {
-    fn fmt<W: fmt::Write>(&self, f: &mut fmt::Formatter<W>) -> fmt::Result {
-        let reason = match self {
+    /// The reason in words.
+    pub fn reason(self) -> &'static str
+        ensures { λ r. ⌜ now r ≡ reason-of self ⌝ }
+    {
+        match self {
             BookFault::OutOfRange => "the item is out of range",
             BookFault::PartMissing => "a part or a key is no row",
             BookFault::KeyNotItem => "the key is no item",
             BookFault::Full => "the row is new and the book is full",
             BookFault::NoMemory => "there is no memory for the row",
-        };
-        f.write_str(reason)
+        }
     }
 }
 

@@ -1,0 +1,5 @@
+pub mod Cutting
+pub mod Reading
+pub mod Matching
+pub mod Silence
+pub mod Texts

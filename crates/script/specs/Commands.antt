@@ -1,0 +1,64 @@
+-- The commands of a script, read off the words of a line.
+use mathlib.Core.Bool.{Bool, cond}
+use mathlib.Core.List.{List, [], _∷_}
+use Prim.Native.Nat.{ℕ}
+use lib.Chars.{codes}
+use Rattle.std.specs.Options.{mapped}
+use Rattle.std.specs.shelf.Text.{sameBytes}
+use Rattle.std.specs.declared.option.Option.{Option}
+use Rattle.std.specs.declared.option.Option.the-variants.{Some, None}
+use Rattle.terms.specs.declared.row.Item.the-variants.{Name, Variable}
+use Rattle.terms.specs.declared.row.Row.{Row}
+use Rattle.terms.specs.declared.row.Row.the-variants as row
+use Rattle.script.specs.Numbers.{number-up-to}
+use Rattle.script.specs.declared.command.Command.{Command}
+use Rattle.script.specs.declared.command.Command.the-variants as command
+
+-- A word of a line, as its bytes.
+abbrev pub Word : Type 0
+Word = List ℕ
+
+-- `name N` and `variable N`: a name's number has 32 bits, a variable's 8.
+abbrev pub item-of : Word → Word → Option Row
+item-of kind n =
+    cond (sameBytes kind (codes "name")) (mapped (λ k. row.Item (Name k)) (number-up-to 4294967295 n))
+    (cond (sameBytes kind (codes "variable")) (mapped (λ k. row.Item (Variable k)) (number-up-to 255 n)) None)
+
+-- A row of the numbers of two rows, by its kind.
+abbrev pub compound-by : Word → ℕ → ℕ → Option Row
+compound-by kind a b =
+    cond (sameBytes kind (codes "pair")) (Some (row.Pair a b))
+    (cond (sameBytes kind (codes "seal")) (Some (row.Seal a b))
+    (cond (sameBytes kind (codes "lock")) (Some (row.Lock a b)) None))
+
+abbrev pub of-both : {A : Type 0} → (ℕ → ℕ → Option A) → Option ℕ → Option ℕ → Option A
+of-both f None n = None
+of-both f (Some a) None = None
+of-both f (Some a) (Some b) = f a b
+
+-- `pair A B`, `seal A B` and `lock A B`: the content first, then the key; the numbers have 64 bits.
+abbrev pub compound-of : Word → Word → Word → Option Row
+compound-of kind first second = of-both (compound-by kind) (number-up-to 18446744073709551615 first) (number-up-to 18446744073709551615 second)
+
+-- What follows `row`.
+abbrev pub row-of : List Word → Option Row
+row-of [] = None
+row-of (kind ∷ []) = None
+row-of (kind ∷ n ∷ []) = item-of kind n
+row-of (kind ∷ first ∷ second ∷ []) = compound-of kind first second
+row-of (kind ∷ first ∷ second ∷ w ∷ ws) = None
+
+-- Nothing follows.
+abbrev pub alone : Command → List Word → Option Command
+alone c [] = Some c
+alone c (w ∷ ws) = None
+
+-- The command that begins with the word.
+abbrev pub headed-of : Word → List Word → Option Command
+headed-of head rest =
+    cond (sameBytes head (codes "row")) (mapped command.Row (row-of rest))
+    (cond (sameBytes head (codes "new")) (alone command.New rest) None)
+
+abbrev pub command-of : List Word → Option Command
+command-of [] = None
+command-of (head ∷ rest) = headed-of head rest

@@ -1,0 +1,5 @@
+//! The language of scripts: the words of a line, the numbers among them, and the command that
+//! they give.
+pub mod command;
+pub mod numbers;
+pub mod words;
