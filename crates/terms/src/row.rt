@@ -4,7 +4,7 @@ use earliest::Same;
 /// An atom of a term: a name or a variable.
 #[derive(Clone, Copy, PartialEq, Eq)]
 pub enum Item {
-    /// A name, 1 to 4,294,967,295.
+    /// A name: a number from 1 through 4,294,967,295.
     Name(u32),
     /// A variable, 0 to 23; variable 0 is the owner of a role.
     Variable(u8),
