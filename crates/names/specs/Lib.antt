@@ -1,0 +1,9 @@
+pub mod Sets
+pub mod Draws
+pub mod Many
+pub mod Faults
+pub mod Counting
+pub mod Rolls
+pub mod Unread
+pub mod Withheld
+pub mod Any
