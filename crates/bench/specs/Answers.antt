@@ -4,13 +4,15 @@ use Prim.Native.Nat.{ℕ}
 use lib.Chars.{codes}
 use Rattle.std.specs.Written.{decimal}
 use Rattle.refusals.specs.Written as refusals
-use Rattle.terms.specs.Faults.{refusal-of, reason-of}
+use Rattle.bench.specs.Faults.{refusal-of, reason-of}
 use Rattle.bench.specs.declared.answer.Answer.{Answer}
-use Rattle.bench.specs.declared.answer.Answer.the-variants.{Row, Noted, Refused, NotUnderstood}
+use Rattle.bench.specs.declared.answer.Answer.the-variants.{Row, Noted, Loaded, Withheld, Refused, NotUnderstood}
 
 -- A refusal is told by its six numbers, a colon, and the reason in words.
 abbrev pub written : Answer → List ℕ
 written (Row n) = codes "row " ++ decimal n
 written Noted = codes "noted"
+written (Loaded n) = codes "loaded " ++ decimal n
+written (Withheld n) = codes "withheld " ++ decimal n
 written (Refused f) = codes "refused " ++ (refusals.written (refusal-of f) ++ (codes ": " ++ reason-of f))
 written NotUnderstood = codes "not understood"

@@ -1,8 +1,8 @@
 ghost use Rattle.std.specs.declared.option.Option.the-variants.{Some};
 ghost use Rattle.bench.specs.Answers.{written};
+use crate::faults::Fault;
 use refusals::RefusalDisplay;
 use std::fmt;
-use terms::faults::BookFault;
 
 /// The answer to a line of a script.
 #[derive(Clone, Copy)]
@@ -11,8 +11,12 @@ pub enum Answer {
     Row(usize),
     /// The line was carried out, and there is no more to tell.
     Noted,
+    /// A list of so many numbers was loaded.
+    Loaded(usize),
+    /// A list of so many numbers is withheld.
+    Withheld(usize),
     /// The call was refused.
-    Refused(BookFault),
+    Refused(Fault),
     /// The line could not be read.
     NotUnderstood,
 }
@@ -24,6 +28,8 @@ pub impl fmt::Display for Answer as AnswerDisplay {
         match self {
             Answer::Row(number) => write!(f, "row {number}"),
             Answer::Noted => write!(f, "noted"),
+            Answer::Loaded(count) => write!(f, "loaded {count}"),
+            Answer::Withheld(count) => write!(f, "withheld {count}"),
             Answer::Refused(fault) => {
                 let refusal = fault.refusal();
                 let reason = fault.reason();

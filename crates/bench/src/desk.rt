@@ -1,37 +1,66 @@
 ghost use mathlib.Core.Path.{_≡_};
 ghost use mathlib.Core.List.{[]};
+ghost use Rattle.std.specs.Of.Vec.{vec-items};
 ghost use Rattle.std.specs.Results.{Cases};
-ghost use Rattle.terms.specs.Held.{rows-of};
-ghost use Rattle.bench.specs.Playing.{Carried, Answered};
+ghost use Rattle.std.specs.Vec.{made};
+ghost use Rattle.names.specs.Any.{view-of};
+ghost use Rattle.script.specs.Said.{said};
+ghost use Rattle.terms.specs.Held.{capacity-of};
+ghost use Rattle.bench.specs.States.{state-of, empty};
+ghost use Rattle.bench.specs.Playing.{RowAdded, Chosen, Layers, Loaded, Withholds, Carried, Answered};
 use crate::answer::Answer;
+use crate::faults::Fault;
+use layouts::any::AnyLayout;
+use layouts::report::Report;
+use names::any::AnySource;
+use names::any::AnySourceSource;
+use names::counter::Counter;
+use names::faults::ListFault;
+use names::roll::Roll;
+use names::withholding::Withholding;
 use script::command::Command;
 use script::command::Line;
 use script::command::read_line;
 use std::alloc::AllocError;
 use std::alloc::Global;
 use terms::book::Book;
+use terms::row::Row;
 
-/// What a script works on: the theory that it writes down.
+/// What a script works on: the theory that it writes down, and the layout and the source for the
+/// next session. The source always has a withholding layer over it, which withholds nothing until
+/// the script asks for it.
 #[derive(Drop)]
 pub struct Desk {
     heap: Global,
     book: Book,
+    layout: AnyLayout,
+    source: Withholding<AnySource>,
+    layered: bool,
 }
 
 impl Desk {
-    /// A desk with an empty theory.
-    pub fn new(heap: Global) -> Self
-        ensures { λ r. ⌜ rows-of (r .book) ≡ [] ⌝ }
+    /// A desk with an empty theory, the report layout and an empty roll.
+    pub fn new(heap: Global) -> Result<Self, AllocError>
+        ensures { λ r. ⌜ made r (λ d. state-of d ≡ empty) ⌝ }
     {
-        Desk {
-            heap,
-            book: Book::new(heap),
+        let Ok(roll) = Roll::new(heap) else {
+            return Err(AllocError);
+        };
+        match Withholding::new(heap, AnySource::Roll(roll)) {
+            Ok(source) => Ok(Desk {
+                heap,
+                book: Book::new(heap),
+                layout: AnyLayout::Report(Report),
+                source,
+                layered: false,
+            }),
+            Err(_) => Err(AllocError),
         }
     }
 
     /// Answers a line of a script; `None` where the line is only echoed.
     pub fn answer(&mut self, line: &[u8]) -> Result<Option<Answer>, AllocError>
-        ensures { λ r. ⌜ Cases r (Answered (now (self .entry) .book) (now (line .entry)) (now (self .exit) .book)) (λ _. now (self .exit) ≡ now (self .entry)) ⌝ }
+        ensures { λ r. ⌜ Cases r (Answered (capacity-of (now (self .entry) .book)) (state-of (now (self .entry))) (now (line .entry)) (state-of (now (self .exit)))) (λ _. now (self .exit) ≡ now (self .entry)) ⌝ }
     {
         match read_line(self.heap, line)? {
             Line::Silent => Ok(None),
@@ -42,17 +71,85 @@ impl Desk {
 
     /// Carries out a command.
     fn carry_out(&mut self, command: Command) -> Answer
-        ensures { λ r. ⌜ Carried (now (self .entry) .book) command (now (self .exit) .book) r ⌝ }
+        ensures { λ r. ⌜ Carried (capacity-of (now (self .entry) .book)) (state-of (now (self .entry))) (said command) (state-of (now (self .exit))) r ⌝ }
     {
         match command {
-            Command::Row(row) => match self.book.add(row) {
-                Ok(number) => Answer::Row(number),
-                Err(fault) => Answer::Refused(fault),
-            },
+            Command::Row(row) => self.add_row(row),
             Command::New => {
                 self.book = Book::new(self.heap);
                 Answer::Noted
             }
+            Command::Layout(layout) => {
+                self.layout = layout;
+                Answer::Noted
+            }
+            Command::Counter(first) => self.choose(AnySource::Counter(Counter::new(first))),
+            Command::Roll => match Roll::new(self.heap) {
+                Ok(roll) => self.choose(AnySource::Roll(roll)),
+                Err(fault) => Answer::Refused(Fault::List(fault)),
+            },
+            Command::Withholding => self.add_layer(),
+            Command::Load(numbers) => self.load(numbers.as_slice()),
+            Command::Withhold(numbers) => self.withhold(numbers.as_slice()),
+        }
+    }
+
+    /// Adds a row to the theory's book.
+    fn add_row(&mut self, row: Row) -> Answer
+        ensures { λ r. ⌜ RowAdded (capacity-of (now (self .entry) .book)) (state-of (now (self .entry))) row (state-of (now (self .exit))) r ⌝ }
+    {
+        match self.book.add(row) {
+            Ok(number) => Answer::Row(number),
+            Err(fault) => Answer::Refused(Fault::Book(fault)),
+        }
+    }
+
+    /// Chooses the source for the next session.
+    fn choose(&mut self, source: AnySource) -> Answer
+        ensures { λ r. ⌜ Chosen (state-of (now (self .entry))) (view-of source) (state-of (now (self .exit))) r ⌝ }
+    {
+        match Withholding::new(self.heap, source) {
+            Ok(layered) => {
+                self.source = layered;
+                self.layered = false;
+                Answer::Noted
+            }
+            Err(_) => Answer::Refused(Fault::List(ListFault::NoMemory)),
+        }
+    }
+
+    /// Puts the withholding layer over the source, once.
+    fn add_layer(&mut self) -> Answer
+        ensures { λ r. ⌜ Layers (now (self .entry) .layered) (state-of (now (self .entry))) (state-of (now (self .exit))) r ⌝ }
+    {
+        if self.layered {
+            return Answer::NotUnderstood;
+        }
+        self.layered = true;
+        Answer::Noted
+    }
+
+    /// Loads the roll.
+    fn load(&mut self, numbers: &[u32]) -> Answer
+        ensures { λ r. ⌜ Loaded (state-of (now (self .entry)) .source) (state-of (now (self .entry))) (now (numbers .entry)) (state-of (now (self .exit))) r ⌝ }
+    {
+        match self.source.load(numbers) {
+            None => Answer::NotUnderstood,
+            Some(Ok(())) => Answer::Loaded(numbers.len()),
+            Some(Err(fault)) => Answer::Refused(Fault::List(fault)),
+        }
+    }
+
+    /// Sets the layer's list.
+    fn withhold(&mut self, numbers: &[u32]) -> Answer
+        ensures { λ r. ⌜ Withholds (now (self .entry) .layered) (state-of (now (self .entry))) (now (numbers .entry)) (state-of (now (self .exit))) r ⌝ }
+    {
+        if !self.layered {
+            return Answer::NotUnderstood;
+        }
+        match self.source.withhold(numbers) {
+            Ok(()) => Answer::Withheld(numbers.len()),
+            Err(fault) => Answer::Refused(Fault::List(fault)),
         }
     }
 }

@@ -6,4 +6,5 @@ pub mod Counting
 pub mod Rolls
 pub mod Unread
 pub mod Withheld
+pub mod Layered
 pub mod Any

@@ -1,5 +1,6 @@
 pub mod Cutting
 pub mod Reading
 pub mod Matching
+pub mod Listing
 pub mod Silence
 pub mod Texts

@@ -9,14 +9,15 @@ use lib.Chars.{codes}
 use lib.Dec.{eqb}
 use lib.ListN.{length, getD, take, drop}
 use denote.Ref.{RefT}
+use Rattle.std.specs.Options.{mapped}
 use Rattle.std.specs.shelf.Text.{sameBytes}
 use Rattle.std.proofs.shelf.Equals.{sameBytes-decides}
 use Rattle.std.proofs.shelf.Lists.{take-all}
 use Rattle.std.proofs.shelf.Tests.{cases-bool, eqb-true, eqb-false}
 use Rattle.std.specs.declared.option.Option.{Option}
 use Rattle.std.specs.declared.option.Option.the-variants.{Some, None}
-use Rattle.script.specs.Commands.{Word, compound-by, of-both, row-of, alone, command-of}
-use Rattle.script.specs.declared.command.Command.{Command}
+use Rattle.script.specs.Said as said
+use Rattle.script.specs.Commands.{Word, compound-by, of-both, row-of, plain-of, command-of}
 
 -- two words that differ
 pub unlike : (w k : Word) → (w ≡ k → ⊥) → sameBytes w k ≡ false
@@ -61,11 +62,17 @@ no-compound kind None y p s l = refl
 no-compound kind (Some a) None p s l = refl
 no-compound kind (Some a) (Some b) p s l = rw (unlike kind _ p, unlike kind _ s, unlike kind _ l) refl
 
--- a command of one word
-pub only : (c : Command) (ws : List (RefT Word)) → eqb (length ws) 0 ≡ true → Some c ≡ alone c (told ws)
-only c [] e = refl
-only c (w ∷ ws) e = absurd (omega (arith, eqb-true (length (w ∷ ws)) 0 e))
+-- a command by the count of the words that follow
+pub one-word : (ws : List (RefT Word)) (d : RefT Word) → length ws ≡ 1 → told ws ≡ getD ws 0 d .now ∷ []
+one-word [] d e = absurd (omega arith)
+one-word (a ∷ []) d e = refl
+one-word (a ∷ b ∷ ws) d e = absurd (omega arith)
 
-pub more : (c : Command) (ws : List (RefT Word)) → eqb (length ws) 0 ≡ false → None ≡ alone c (told ws)
-more c [] e = absurd (eqb-false 0 0 e refl)
-more c (w ∷ ws) e = refl
+pub no-words : (ws : List (RefT Word)) → length ws ≡ 0 → told ws ≡ []
+no-words [] e = refl
+no-words (a ∷ ws) e = absurd (omega arith)
+
+pub more-words : (head : Word) (ws : List (RefT Word)) → 2 ≤ length ws → plain-of head (told ws) ≡ cond (sameBytes head (codes "row")) (mapped said.row (row-of (told ws))) None
+more-words head [] h = absurd (omega arith)
+more-words head (a ∷ []) h = absurd (omega arith)
+more-words head (a ∷ b ∷ ws) h = refl

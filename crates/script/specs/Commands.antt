@@ -7,12 +7,14 @@ use Rattle.std.specs.Options.{mapped}
 use Rattle.std.specs.shelf.Text.{sameBytes}
 use Rattle.std.specs.declared.option.Option.{Option}
 use Rattle.std.specs.declared.option.Option.the-variants.{Some, None}
+use Rattle.layouts.specs.declared.any.AnyLayout.{AnyLayout}
+use Rattle.layouts.specs.declared.any.AnyLayout.the-variants as any
 use Rattle.terms.specs.declared.row.Item.the-variants.{Name, Variable}
 use Rattle.terms.specs.declared.row.Row.{Row}
 use Rattle.terms.specs.declared.row.Row.the-variants as row
 use Rattle.script.specs.Numbers.{number-up-to}
-use Rattle.script.specs.declared.command.Command.{Command}
-use Rattle.script.specs.declared.command.Command.the-variants as command
+use Rattle.script.specs.Said as said
+use Rattle.script.specs.Said.{Said}
 
 -- A word of a line, as its bytes.
 abbrev pub Word : Type 0
@@ -48,17 +50,47 @@ row-of (kind ∷ n ∷ []) = item-of kind n
 row-of (kind ∷ first ∷ second ∷ []) = compound-of kind first second
 row-of (kind ∷ first ∷ second ∷ w ∷ ws) = None
 
--- Nothing follows.
-abbrev pub alone : Command → List Word → Option Command
-alone c [] = Some c
-alone c (w ∷ ws) = None
+-- A layout by its word.
+abbrev pub layout-of : Word → Option AnyLayout
+layout-of w =
+    cond (sameBytes w (codes "report")) (Some (any.Report record {}))
+    (cond (sameBytes w (codes "keyserver")) (Some (any.KeyServer record {})) None)
+
+abbrev pub cons-both : Option ℕ → Option (List ℕ) → Option (List ℕ)
+cons-both None ns = None
+cons-both (Some n) None = None
+cons-both (Some n) (Some ns) = Some (n ∷ ns)
+
+-- The numbers of names, each of 32 bits.
+abbrev pub names-of : List Word → Option (List ℕ)
+names-of [] = Some []
+names-of (w ∷ ws) = cons-both (number-up-to 4294967295 w) (names-of ws)
+
+-- A command of one word.
+abbrev pub alone-of : Word → Option Said
+alone-of head =
+    cond (sameBytes head (codes "new")) (Some said.new)
+    (cond (sameBytes head (codes "roll")) (Some said.roll)
+    (cond (sameBytes head (codes "withholding")) (Some said.withholding) None))
+
+-- A command of two words.
+abbrev pub one-of : Word → Word → Option Said
+one-of head w =
+    cond (sameBytes head (codes "layout")) (mapped said.layout (layout-of w))
+    (cond (sameBytes head (codes "counter")) (mapped said.counter (number-up-to 4294967295 w)) None)
+
+-- A command that holds no list.
+abbrev pub plain-of : Word → List Word → Option Said
+plain-of head [] = alone-of head
+plain-of head (w ∷ []) = one-of head w
+plain-of head (w ∷ v ∷ ws) = cond (sameBytes head (codes "row")) (mapped said.row (row-of (w ∷ v ∷ ws))) None
 
 -- The command that begins with the word.
-abbrev pub headed-of : Word → List Word → Option Command
+abbrev pub headed-of : Word → List Word → Option Said
 headed-of head rest =
-    cond (sameBytes head (codes "row")) (mapped command.Row (row-of rest))
-    (cond (sameBytes head (codes "new")) (alone command.New rest) None)
+    cond (sameBytes head (codes "load")) (mapped said.load (names-of rest))
+    (cond (sameBytes head (codes "withhold")) (mapped said.withhold (names-of rest)) (plain-of head rest))
 
-abbrev pub command-of : List Word → Option Command
+abbrev pub command-of : List Word → Option Said
 command-of [] = None
 command-of (head ∷ rest) = headed-of head rest

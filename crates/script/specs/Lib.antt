@@ -1,4 +1,5 @@
 pub mod Words
 pub mod Numbers
+pub mod Said
 pub mod Commands
 pub mod Lines

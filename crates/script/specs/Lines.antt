@@ -10,22 +10,20 @@ use Rattle.std.specs.declared.option.Option.{Option}
 use Rattle.std.specs.declared.option.Option.the-variants.{Some, None}
 use Rattle.script.specs.Words.{blank, words}
 use Rattle.script.specs.Commands.{command-of}
-use Rattle.script.specs.declared.command.Command.{Command}
-use Rattle.script.specs.declared.command.Line.{Line}
-use Rattle.script.specs.declared.command.Line.the-variants as line
+use Rattle.script.specs.Said.{Said, SaidLine, silent, unreadable, commands}
 
 -- A line is only echoed if it is blank, or if its first byte that is no blank is '#', the byte 35.
 abbrev pub is-silent : List ℕ → Bool
 is-silent [] = true
 is-silent (b ∷ bs) = cond (eqb b blank) (is-silent bs) (eqb b 35)
 
-abbrev pub by-command : Option Command → Line
-by-command (Some c) = line.Command c
-by-command None = line.Unreadable
+abbrev pub by-command : Option Said → SaidLine
+by-command (Some c) = commands c
+by-command None = unreadable
 
 -- A line that is neither blank nor a comment is the command that its words give; what is no UTF-8 text can't be read.
-abbrev pub Reads : List ℕ → Line → Type 0
+abbrev pub Reads : List ℕ → SaidLine → Type 0
 Reads bytes l =
-    ((is-silent bytes ≡ true) × (l ≡ line.Silent))
+    ((is-silent bytes ≡ true) × (l ≡ silent))
     ⊎ ((is-silent bytes ≡ false) × Utf8 bytes × (l ≡ by-command (command-of (words bytes))))
-    ⊎ ((is-silent bytes ≡ false) × (Utf8 bytes → ⊥) × (l ≡ line.Unreadable))
+    ⊎ ((is-silent bytes ≡ false) × (Utf8 bytes → ⊥) × (l ≡ unreadable))

@@ -1,10 +1,16 @@
 ghost use mathlib.Core.Path.{_≡_};
 ghost use mathlib.Core.List.{map};
+ghost use Rattle.std.specs.Of.Vec.{vec-items};
+ghost use Rattle.std.specs.Options.{mapped};
 ghost use Rattle.std.specs.Vec.{made};
-ghost use Rattle.script.specs.Commands.{item-of, compound-of, row-of, headed-of, command-of};
+ghost use Rattle.script.specs.Said.{load, withhold, said, said-line};
+ghost use Rattle.script.specs.Commands.{item-of, compound-of, row-of, layout-of, names-of, alone-of, one-of, plain-of, headed-of, command-of};
 ghost use Rattle.script.specs.Lines.{is-silent, Reads};
 use crate::numbers::read_number;
 use crate::words::split_words;
+use layouts::any::AnyLayout;
+use layouts::key_server::KeyServer;
+use layouts::report::Report;
 use std::alloc::AllocError;
 use std::alloc::Global;
 use std::str::from_utf8;
@@ -12,16 +18,28 @@ use terms::row::Item;
 use terms::row::Row;
 
 /// A command of a script.
-#[derive(Clone, Copy)]
+#[derive(Drop)]
 pub enum Command {
     /// `row ..`: adds a row to the theory's book.
     Row(Row),
     /// `new`: begins an empty theory.
     New,
+    /// `layout ..`: chooses the layout.
+    Layout(AnyLayout),
+    /// `counter N`: chooses a counter from N as source.
+    Counter(u32),
+    /// `roll`: chooses an empty roll as source.
+    Roll,
+    /// `withholding`: puts the withholding layer over the source.
+    Withholding,
+    /// `load ..`: loads the roll.
+    Load(Vec<u32>),
+    /// `withhold ..`: sets the layer's list.
+    Withhold(Vec<u32>),
 }
 
 /// What a line of a script is.
-#[derive(Clone, Copy)]
+#[derive(Drop)]
 pub enum Line {
     /// A blank line or a comment, which is only echoed.
     Silent,
@@ -32,7 +50,7 @@ pub enum Line {
 
 /// What the line is; no more than memory can be wanting.
 pub fn read_line(heap: Global, line: &[u8]) -> Result<Line, AllocError>
-    ensures { λ r. ⌜ made r (Reads (now (line .entry))) ⌝ }
+    ensures { λ r. ⌜ made r (λ l. Reads (now (line .entry)) (said-line l)) ⌝ }
 {
     if begins_silent(line) {
         return Ok(Line::Silent);
@@ -41,7 +59,7 @@ pub fn read_line(heap: Global, line: &[u8]) -> Result<Line, AllocError>
         return Ok(Line::Unreadable);
     };
     let words = split_words(heap, text)?;
-    match read_command(words.as_slice()) {
+    match read_command(heap, words.as_slice())? {
         Some(command) => Ok(Line::Command(command)),
         None => Ok(Line::Unreadable),
     }
@@ -60,28 +78,107 @@ fn begins_silent(line: &[u8]) -> bool
 }
 
 /// The command that the words give.
-fn read_command(words: &[&str]) -> Option<Command>
-    ensures { λ r. ⌜ r ≡ command-of (map (λ w. now w) (now (words .entry))) ⌝ }
+fn read_command(heap: Global, words: &[&str]) -> Result<Option<Command>, AllocError>
+    ensures { λ r. ⌜ made r (λ c. mapped said c ≡ command-of (map (λ w. now w) (now (words .entry)))) ⌝ }
 {
     let [head, rest @ ..] = words else {
-        return None;
+        return Ok(None);
     };
-    read_headed(head, rest)
+    read_headed(heap, head, rest)
 }
 
 /// The command that begins with the word `head`.
-fn read_headed(head: &str, rest: &[&str]) -> Option<Command>
-    ensures { λ r. ⌜ r ≡ headed-of (now (head .entry)) (map (λ w. now w) (now (rest .entry))) ⌝ }
+fn read_headed(heap: Global, head: &str, rest: &[&str]) -> Result<Option<Command>, AllocError>
+    ensures { λ r. ⌜ made r (λ c. mapped said c ≡ headed-of (now (head .entry)) (map (λ w. now w) (now (rest .entry)))) ⌝ }
 {
     match head {
-        "row" => Some(Command::Row(read_row(rest)?)),
-        "new" => if rest.is_empty() {
-            Some(Command::New)
+        "load" => read_load(heap, rest),
+        "withhold" => read_withhold(heap, rest),
+        _ => Ok(read_plain(head, rest)),
+    }
+}
+
+/// A command that holds no list.
+fn read_plain(head: &str, rest: &[&str]) -> Option<Command>
+    ensures { λ r. ⌜ mapped said r ≡ plain-of (now (head .entry)) (map (λ w. now w) (now (rest .entry))) ⌝ }
+{
+    match rest {
+        [] => read_alone(head),
+        [word] => read_one(head, word),
+        _ => if head == "row" {
+            Some(Command::Row(read_row(rest)?))
         } else {
             None
         },
+    }
+}
+
+/// A command of one word.
+fn read_alone(head: &str) -> Option<Command>
+    ensures { λ r. ⌜ mapped said r ≡ alone-of (now (head .entry)) ⌝ }
+{
+    match head {
+        "new" => Some(Command::New),
+        "roll" => Some(Command::Roll),
+        "withholding" => Some(Command::Withholding),
         _ => None,
     }
+}
+
+/// A command of two words.
+fn read_one(head: &str, word: &str) -> Option<Command>
+    ensures { λ r. ⌜ mapped said r ≡ one-of (now (head .entry)) (now (word .entry)) ⌝ }
+{
+    match head {
+        "layout" => Some(Command::Layout(read_layout(word)?)),
+        "counter" => Some(Command::Counter(read_number(word, 4_294_967_295)? as u32)),
+        _ => None,
+    }
+}
+
+/// A layout by its word.
+fn read_layout(word: &str) -> Option<AnyLayout>
+    ensures { λ r. ⌜ r ≡ layout-of (now (word .entry)) ⌝ }
+{
+    match word {
+        "report" => Some(AnyLayout::Report(Report)),
+        "keyserver" => Some(AnyLayout::KeyServer(KeyServer)),
+        _ => None,
+    }
+}
+
+/// The list to load.
+fn read_load(heap: Global, words: &[&str]) -> Result<Option<Command>, AllocError>
+    ensures { λ r. ⌜ made r (λ c. mapped said c ≡ mapped load (names-of (map (λ w. now w) (now (words .entry))))) ⌝ }
+{
+    match read_names(heap, words)? {
+        Some(numbers) => Ok(Some(Command::Load(numbers))),
+        None => Ok(None),
+    }
+}
+
+/// The list to withhold.
+fn read_withhold(heap: Global, words: &[&str]) -> Result<Option<Command>, AllocError>
+    ensures { λ r. ⌜ made r (λ c. mapped said c ≡ mapped withhold (names-of (map (λ w. now w) (now (words .entry))))) ⌝ }
+{
+    match read_names(heap, words)? {
+        Some(numbers) => Ok(Some(Command::Withhold(numbers))),
+        None => Ok(None),
+    }
+}
+
+/// The numbers of a list of names.
+fn read_names(heap: Global, words: &[&str]) -> Result<Option<Vec<u32>>, AllocError>
+    ensures { λ r. ⌜ made r (λ v. mapped vec-items v ≡ names-of (map (λ w. now w) (now (words .entry)))) ⌝ }
+{
+    let mut numbers = Vec::new(heap);
+    for word in words {
+        match read_number(word, 4_294_967_295) {
+            Some(number) => numbers.push(number as u32)?,
+            None => return Ok(None),
+        }
+    }
+    Ok(Some(numbers))
 }
 
 /// The row that the words after `row` give.
