@@ -18,19 +18,19 @@ pub record Lacked (lay : Meaning) (F : ℕ) : Type 0 where
 pub record Lawful (lay : Meaning) : Type 0 where
   pub at-most-sixteen : lay .families ≤ 16
   pub at-most-two : (F : ℕ) → F < lay .families → length (lay .params F) ≤ 2
-  -- family 0 is msg, and family 1 principal; both have no parameters and are no keys
+  -- msg is family 0, and principal family 1: types without parameters whose items are no keys
   pub msg-params : lay .params 0 ≡ []
   pub msg-plain : lay .kind 0 ≡ Plain
   pub principal-there : 1 < lay .families
   pub principal-params : lay .params 1 ≡ []
   pub principal-plain : lay .kind 1 ≡ Plain
   pub principal-sendable : lay .sendable 1 ≡ true
-  -- a parameter's family is smaller than the family itself, and is not msg
+  -- the family of a parameter comes before that of the type, and is not msg
   pub params-smaller : (F G : ℕ) → F < lay .families → List·Memᴰ G (lay .params F) → (0 < G) × (G < F)
-  -- an opening family has one parameter, of the locking family that it opens; so msg and principal open nothing
+  -- the items of an opening family are private keys of one public key, their parameter; so msg and principal open nothing
   pub opener-params : (F G : ℕ) → F < lay .families → lay .kind F ≡ Locking G → (G < lay .families) × (lay .params G ≡ F ∷ [])
   -- msg is never granted
   pub msg-never : (o a b c : ℕ) → lay .grants o 0 a b c ≡ false
-  -- a grant is kept by any one function that keeps 0 and is applied to all four codes: so it never rests on a difference
+  -- grants survive substitution, two codes becoming one among them: so they never rest on a difference
   pub grants-kept : (f : ℕ → ℕ) → f 0 ≡ 0 → (o F a b c : ℕ) → F < lay .families → lay .grants o F a b c ≡ true → lay .grants (f o) F (f a) (f b) (f c) ≡ true
   pub lacking : (F : ℕ) → lay .families ≤ F → Lacked lay F

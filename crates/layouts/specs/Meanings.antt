@@ -16,9 +16,9 @@ pub record Meaning : Type 0 where
   pub sendable : ℕ → Bool
   -- what the items do as keys
   pub kind : ℕ → Kind
-  -- whether a rule may make names of the family
+  -- whether rules can make fresh names of the family
   pub makeable : ℕ → Bool
-  -- whether an owner is granted the items of a family, by its first and second parameter and the first parameter of the first
+  -- whether an owner is granted the items of a family: the owner's code, the family, the codes of the two parameters, and that of the first one's own parameter
   pub grants : ℕ → ℕ → ℕ → ℕ → ℕ → Bool
 
 -- The families of parameters, as a list.

@@ -16,7 +16,7 @@ pub struct Counter {
 }
 
 impl Counter {
-    /// A counter from a first number; 0 counts as 1.
+    /// A counter that begins with `first`, or with 1 where that is 0.
     pub fn new(first: u32) -> Self
         ensures { λ r. ⌜ r .next ≡ max first 1 ⌝ }
     {

@@ -36,7 +36,7 @@ impl<S: Source> Withholding<S> {
         }
     }
 
-    /// Puts a new list of withheld numbers in the old one's place; zeros and repeats are allowed.
+    /// Replaces the list of withheld numbers; zeros and repeats are allowed.
     ///
     /// It is refused with 5 where there are more than 32 numbers (spot 33), and then leaves the
     /// old list.

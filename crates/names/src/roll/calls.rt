@@ -24,7 +24,7 @@ impl Roll {
         Ok(Roll { numbers, read: 0 })
     }
 
-    /// Puts a new list in the old one's place.
+    /// Replaces the list.
     ///
     /// It is refused, in this order: 5 more than 512 numbers (spot 513); 6 a zero or a repeated
     /// number (spot: its place). A refusal leaves the old list.
