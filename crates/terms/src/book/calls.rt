@@ -1,9 +1,11 @@
 ghost use mathlib.Core.Path.{_≡_};
 ghost use mathlib.Core.List.{[]};
+ghost use mathlib.Core.Bool.{true};
+ghost use Prim.Native.Nat.{_≤_};
 ghost use lib.ListN.{length};
 ghost use Rattle.refusals.specs.Tables.{decided};
 ghost use Rattle.terms.specs.Rows.{is-row, row-at};
-ghost use Rattle.terms.specs.Books.{unfit};
+ghost use Rattle.terms.specs.Books.{unfit, is-book};
 ghost use Rattle.terms.specs.Held.{rows-of, capacity-of};
 ghost use Rattle.terms.specs.Adding.{Added};
 ghost use Rattle.terms.specs.Standing.{Exact};
@@ -42,6 +44,15 @@ impl Book {
         } else {
             None
         }
+    }
+
+    /// All rows, in order.
+    pub fn rows(&self) -> &[Row]
+        ensures value { λ r. ⌜ now r ≡ rows-of (now (self .entry)) ⌝ }
+        ensures book { λ r. ⌜ is-book (now r) ≡ true ⌝ }
+        ensures few { λ r. ⌜ length (now r) ≤ 512 ⌝ }
+    {
+        self.rows.as_slice()
     }
 
     /// The number of the row, which is added where it is new.

@@ -1,0 +1,2 @@
+//! Theories as plain data, finished or not.
+pub mod data;
