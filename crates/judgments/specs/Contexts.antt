@@ -20,13 +20,11 @@ pub data Decl : Type 0 where
   _∶_ : Item → Ty → Decl
 
 infix 70 _∶_
-
 -- A context: the items declared at some point, the last one first.
 abbrev pub Context : Type 0
 Context = List Decl
 
 infix 45 _∈_
-
 abbrev pub _∈_ : {A : Type 0} → A → List A → Type 0
 _∈_ x xs = List·Memᴰ x xs
 

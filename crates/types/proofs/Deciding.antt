@@ -1,4 +1,4 @@
--- Tests that decide, joined. Assumes nothing.
+-- Tests that decide, joined.
 use mathlib.Core.Path.{_≡_, refl, sym, ap, subst, _∙_}
 use mathlib.Core.Bool.{Bool, true, false, not, _&&_, cond}
 use mathlib.Core.List.{List, [], _∷_, _++_, append-assoc, append-nil, List·Memᴰ·head, List·Memᴰ·tail}
@@ -9,7 +9,7 @@ use Rattle.std.proofs.shelf.Tests.{and-parts, and-from, ltb-true, lt-ltb, eqb-t
 use Rattle.std.specs.declared.result.Result.the-variants.{Ok, Err}
 use Rattle.judgments.proofs.Contexts.{not-zero}
 use Rattle.judgments.specs.Contexts.{_∈_}
-use Rattle.types.specs.Walks.{Answer, pass, demand, and-then, walk}
+use Rattle.refusals.specs.Walks.{Answer, pass, demand, and-then, walk}
 use Rattle.types.specs.Decides.{Decides, Passes}
 
 pub decides-and : {a b : Bool} {P Q : Type 0} → Decides a P → Decides b Q → Decides (a && b) (P × Q)

@@ -1,4 +1,4 @@
--- The type check answers the first demand that is not met. Assumes nothing.
+-- The type check answers the first demand that is not met.
 use mathlib.Core.Path.{_≡_, refl, sym, ap, ap₂, subst, _∙_}
 use mathlib.Core.Bool.{Bool, true, false, cond}
 use mathlib.Core.List.{List, [], _∷_, _++_, map, append-nil}
@@ -16,7 +16,7 @@ use Rattle.judgments.specs.Typing.{Formed, TypeFormed, AllKnown}
 use Rattle.judgments.specs.Predicates.{ArgumentsFormed, FirstPrincipal}
 use Rattle.judgments.proofs.Contexts.{not-zero}
 use Rattle.types.specs.Scopes.{Declarations}
-use Rattle.types.specs.Walks.{Answer, pass, demand, and-then, walk}
+use Rattle.refusals.specs.Walks.{Answer, pass, demand, and-then, walk}
 use Rattle.types.specs.Judged.{type-of, context-of, argument-of}
 use Rattle.types.specs.Rows.{term-at}
 use Rattle.types.specs.Names.{names-only, name-check, at-name, names-check}
@@ -25,7 +25,7 @@ use Rattle.types.specs.Facts.{ledger, arguments-check, fact-check}
 use Rattle.types.specs.Rules.{Place, over, same, variable-check, variables-check, predicate-at, a-message, listed-fact, symbol-check, fact-with, facts-check, rule-check}
 use Rattle.types.specs.Theories.{here, place-of, numbered-check, rules-check, anchor-check, role-at, placed-check, roles-check, theory-check}
 use Rattle.types.specs.Typed.{takes, signature, AnchorTyped}
-use Rattle.types.specs.Demands.{Numbers, numbers, numbered, Lines, First, carried, lines, name-lines, predicate-lines, argument-lines, listed-lines, found-lines, symbol-lines, fact-lines, facts-lines, variable-lines, variables-lines, rule-lines, predicates-lines, role-lines, fault-lines, theory-lines}
+use Rattle.types.specs.Demands.{refusal-of, numbered, Lines, First, carried, lines, name-lines, predicate-lines, argument-lines, listed-lines, found-lines, symbol-lines, fact-lines, facts-lines, variable-lines, variables-lines, rule-lines, predicates-lines, role-lines, fault-lines, theory-lines}
 use Rattle.types.specs.Decides.{Decides, Passes}
 use Rattle.types.proofs.Deciding.{decides-and, decides-same}
 use Rattle.types.proofs.Signatures.{in-range-decides, new-decides, name-passes, names-judged, type-formed-decides, suited-decides}
@@ -62,8 +62,8 @@ first-then up [] ys a r h k = rw h (k h)
 first-then up (l ∷ xs) ys a r (inl h) k = inl (h .0, ap (λ a. and-then up a r) (h .1))
 first-then up (l ∷ xs) ys a r (inr h) k = inr (h .0, first-then up xs ys a r (h .1) k)
 
--- a table told by the six numbers
-first-numbered : (xs : Lines TypeFault) (r : Answer TypeFault) → First xs r → First (carried numbers xs) (numbered r)
+-- a table told by six numbers
+first-numbered : (xs : Lines TypeFault) (r : Answer TypeFault) → First xs r → First (carried refusal-of xs) (numbered r)
 first-numbered [] r h = ap numbered h
 first-numbered (l ∷ xs) r (inl h) = inl (h .0, ap numbered (h .1))
 first-numbered (l ∷ xs) r (inr h) = inr (h .0, first-numbered xs r (h .1))

@@ -1,4 +1,4 @@
--- The check of a fact decides whether its terms agree with the argument types. Assumes nothing.
+-- The check of a fact decides whether its terms agree with the argument types.
 use mathlib.Core.Path.{_≡_, refl, sym, ap, ap₂, subst, _∙_}
 use mathlib.Core.Bool.{Bool, true, false, _&&_, cond}
 use mathlib.Core.List.{List, [], _∷_, _++_, map}
@@ -22,7 +22,7 @@ use Rattle.types.specs.Types.{items}
 use Rattle.types.specs.Judged.{item-of, type-of, context-of, slot-of, slot-list, argument-of}
 use Rattle.types.specs.Rows.{at, row-at, nothing, term-of, terms, term-at}
 use Rattle.types.specs.Messages.{declared-row, key-type, marks, has-type}
-use Rattle.types.specs.Walks.{Answer, pass, demand}
+use Rattle.refusals.specs.Walks.{Answer, pass, demand}
 use Rattle.types.specs.Facts.{known-of, knowns, ledger, all-flags, item-in, slot-item, filled, argument-type, arguments-check, fact-check}
 use Rattle.types.specs.Decides.{Decides, Passes}
 use Rattle.types.proofs.Deciding.{decides-and, decides-same, decides-as, decides-always, demand-passes, passes-always, passes-as}

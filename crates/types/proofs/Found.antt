@@ -1,4 +1,4 @@
--- What is found in a scope is what is declared in its context. Assumes nothing.
+-- What is found in a scope is what is declared in its context.
 use mathlib.Core.Path.{_≡_, refl, sym, ap, subst, _∙_}
 use mathlib.Core.Bool.{Bool, true, false, cond}
 use mathlib.Core.List.{List, [], _∷_, _++_, map, List·Memᴰ·head, List·Memᴰ·tail}

@@ -1,4 +1,4 @@
--- The check of a predicate decides whether it is well formed. Assumes nothing.
+-- The check of a predicate decides whether it is well formed.
 use mathlib.Core.Path.{_≡_, refl, sym, ap, ap₂, subst, _∙_}
 use mathlib.Core.Bool.{Bool, true, false, _&&_, cond}
 use mathlib.Core.List.{List, [], _∷_, _++_, map}
@@ -18,7 +18,7 @@ use Rattle.judgments.specs.Predicates.{SlotSuits, SlotsSuit, ArgumentFormed, Ar
 use Rattle.judgments.proofs.Contexts.{not-zero}
 use Rattle.types.specs.Names.{names-only}
 use Rattle.types.specs.Judged.{slot-of, slot-list, argument-of}
-use Rattle.types.specs.Walks.{Answer, pass, demand, and-then, walk}
+use Rattle.refusals.specs.Walks.{Answer, pass, demand, and-then, walk}
 use Rattle.types.specs.Predicates.{argument-is, slot-suited, slots-suited, argument-formed, argument-check, same-place, arguments-formed, first-principal, predicate-check, at-spot, listed-check, predicates-check}
 use Rattle.types.specs.Typed.{takes, signature, AllFormed}
 use Rattle.types.specs.Decides.{Decides, Passes}

@@ -1,4 +1,4 @@
--- The marks on rows, and the test of a row's type, decide what the terms of the rows have. Assumes nothing.
+-- The marks on rows, and the test of a row's type, decide what the terms of the rows have.
 use mathlib.Core.Path.{_≡_, refl, sym, ap, ap₂, subst, _∙_}
 use mathlib.Core.Bool.{Bool, true, false, _&&_, _||_, cond}
 use mathlib.Core.List.{List, [], _∷_, _++_, map, append-nil, append-assoc}

@@ -1,4 +1,4 @@
--- The check of a rule decides whether it has its types. Assumes nothing.
+-- The check of a rule decides whether it has its types.
 use mathlib.Core.Path.{_≡_, refl, sym, ap, ap₂, subst, _∙_}
 use mathlib.Core.Bool.{Bool, true, false, cond}
 use mathlib.Core.List.{List, [], _∷_, _++_, map, append-assoc, append-nil, List·Memᴰ·head, List·Memᴰ·tail}
@@ -20,7 +20,7 @@ use Rattle.judgments.proofs.Contexts.{not-zero, formed-below}
 use Rattle.types.specs.Judged.{type-of, declare, name-decl, variable-decl, with-owner, context-of, argument-of}
 use Rattle.types.specs.Rows.{term-at}
 use Rattle.types.specs.Types.{type-formed}
-use Rattle.types.specs.Walks.{Answer, pass, demand, and-then, walk}
+use Rattle.refusals.specs.Walks.{Answer, pass, demand, and-then, walk}
 use Rattle.types.specs.Facts.{ledger, fact-check}
 use Rattle.types.specs.Predicates.{at-spot}
 use Rattle.types.specs.Rules.{Place, over, variable-check, variables-check, predicate-at, listed-fact, a-message, symbol-check, fact-with, facts-check, same, parts-check, rule-check}

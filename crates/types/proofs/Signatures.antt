@@ -1,4 +1,4 @@
--- The signature's check decides whether its context is well formed. Assumes nothing.
+-- The signature's check decides whether its context is well formed.
 use mathlib.Core.Path.{_≡_, refl, sym, ap, subst, _∙_}
 use mathlib.Core.Bool.{Bool, true, false, not, _&&_, _||_, cond}
 use mathlib.Core.List.{List, [], _∷_, _++_, map, append-assoc, append-nil}
@@ -18,7 +18,7 @@ use Rattle.judgments.proofs.Contexts.{not-zero, regular}
 use Rattle.judgments.specs.Theorems.{Regular}
 use Rattle.types.specs.Scopes.{Declarations, type-in, scope-type}
 use Rattle.types.specs.Types.{has-family, suited, items, all-suited, type-formed}
-use Rattle.types.specs.Walks.{Answer, pass, walk}
+use Rattle.refusals.specs.Walks.{Answer, pass, walk}
 use Rattle.types.specs.Names.{names-only, in-range, free, name-check, at-name, names-check}
 use Rattle.types.specs.Judged.{item-of, type-of, declare, name-decl, context-of}
 use Rattle.types.specs.Decides.{Decides, Passes}

@@ -1,4 +1,4 @@
--- The type check decides whether a theory has its types. Assumes nothing.
+-- The type check decides whether a theory has its types.
 use mathlib.Core.Path.{_≡_, refl, sym, ap, ap₂, subst, _∙_}
 use mathlib.Core.Bool.{Bool, true, false, cond}
 use mathlib.Core.List.{List, [], _∷_, _++_, map, List·Memᴰ·head, List·Memᴰ·tail}
@@ -22,7 +22,7 @@ use Rattle.judgments.specs.Theorems.{Regular}
 use Rattle.types.specs.Types.{items}
 use Rattle.types.specs.Names.{names-only, names-check}
 use Rattle.types.specs.Judged.{item-of, type-of, declare, name-decl, context-of}
-use Rattle.types.specs.Walks.{Answer, pass, demand, and-then, walk}
+use Rattle.refusals.specs.Walks.{Answer, pass, demand, and-then, walk}
 use Rattle.types.specs.Predicates.{predicates-check}
 use Rattle.types.specs.Rules.{Place, over, same, rule-check}
 use Rattle.types.specs.Theories.{owner-of, here, numbered, numbered-check, rules-check, anchor-check, place-of, role-check, role-at, placed-check, roles-check, tables-check, theory-check}

@@ -1,4 +1,4 @@
--- One turn of a loop that walks through a list. Assumes nothing.
+-- One turn of the loops that look up names, mark rows and check arguments.
 use mathlib.Core.Path.{_≡_, refl, sym, ap, _∙_}
 use mathlib.Core.Bool.{Bool, true, false, _&&_, cond}
 use mathlib.Core.List.{List, [], _∷_, _++_}
@@ -12,7 +12,7 @@ use Rattle.std.specs.declared.option.Option.{Option}
 use Rattle.std.specs.declared.option.Option.the-variants.{Some, None}
 use Rattle.std.specs.declared.result.Result.{Result}
 use Rattle.std.specs.declared.result.Result.the-variants.{Ok, Err}
-use Rattle.types.specs.Walks.{Answer, pass, demand, and-then, walk}
+use Rattle.refusals.specs.Walks.{Answer, pass, demand}
 use Rattle.types.specs.Scopes.{Declarations, type-in}
 use Rattle.theory.specs.declared.data.Declared.{Declared}
 use Rattle.theory.specs.declared.data.Ty.{Ty}
@@ -23,32 +23,6 @@ use Rattle.theory.specs.declared.data.Argument.{Argument}
 use Rattle.types.specs.declared.faults.Ill.{Ill}
 use Rattle.types.specs.declared.faults.Ill.the-variants.{Lacks}
 use Rattle.terms.specs.declared.row.Row.{Row}
-
-module _ {X F G : Type 0} (check : List X → X → Answer F) (place : ℕ → F → G) (xs : List X) (i : ℕ) where
-  turn : (d : X) → i < length xs → (a : Answer F) → check (take i xs) (getD xs i d) ≡ a → walk check place (take i xs) (drop i xs) ≡ and-then (place (i + 1)) a (walk check place (take (i + 1) xs) (drop (i + 1) xs))
-  turn d within a e =
-      let long : length (take i xs) ≡ i = length-take-le i xs (omega arith) in
-      let more = take-more xs i d within in
-      at-drop-more (walk check place (take i xs)) xs i d within ∙ simp (long, e, more)
-
-  -- `seen` is what the code lent as the elements before, and r what the check of the element answered
-  module _ (r : Answer G) (seen : List X) (d : X) (within : i < length xs) (lent : seen ≡ take i xs) (inv : walk check place (take i xs) (drop i xs) ≡ r) where
-    pub walk-here : (f : F) → Err f ≡ check seen (getD xs i d) → Err (place (i + 1) f) ≡ r
-    walk-here f e = sym (turn d within (Err f) (rw lent at (sym e))) ∙ inv
-
-    pub walk-later : (u : Unit {0}) → Ok u ≡ check seen (getD xs i d) → walk check place (take (i + 1) xs) (drop (i + 1) xs) ≡ r
-    walk-later u e = sym (turn d within (Ok u) (rw lent at (sym e))) ∙ inv
-
-  -- the same where the element owns memory: x is what was lent of it
-  module _ (r : Answer G) (seen : List X) (x : X) (within : i < length xs) (lent : seen ≡ take i xs) (read : x ≡ getD xs i x) (inv : walk check place (take i xs) (drop i xs) ≡ r) where
-    pub walk-here-own : (f : F) → Err f ≡ check seen x → Err (place (i + 1) f) ≡ r
-    walk-here-own f e = walk-here r seen x within lent inv f (e ∙ ap (check seen) read)
-
-    pub walk-later-own : (u : Unit {0}) → Ok u ≡ check seen x → walk check place (take (i + 1) xs) (drop (i + 1) xs) ≡ r
-    walk-later-own u e = walk-later r seen x within lent inv u (e ∙ ap (check seen) read)
-
-  pub walk-none : length xs ≤ i → walk check place (take i xs) (drop i xs) ≡ Ok (tt {0})
-  walk-none past = at-drop-all (walk check place (take i xs)) xs i past
 
 module _ (ds : List Declared) (i n : ℕ) where
   in-turn : (d : Declared) → i < length ds → type-in (drop i ds) n ≡ cond (eqb (getD ds i d .name) n) (Some (getD ds i d .of)) (type-in (drop (i + 1) ds) n)
@@ -107,10 +81,3 @@ module _ (s : Declarations) (l : Ledger) (all ks : List ℕ) (As : List Argument
 
   pub arguments-none : length ks ≤ i → Ok (tt {0}) ≡ r
   arguments-none past = sym (at-drop-all (λ xs. arguments-check s l all xs (drop i As)) ks i past) ∙ inv
-
--- a check of one line, by the answer of its test
-pub demand-fails : {F : Type 0} (f : F) {b : Bool} → false ≡ b → Err f ≡ demand b f pass
-demand-fails f e = ap (λ b. demand b f pass) e
-
-pub demand-holds : {F : Type 0} (f : F) {b : Bool} → true ≡ b → pass ≡ demand b f pass
-demand-holds f e = ap (λ b. demand b f pass) e

@@ -15,7 +15,8 @@ use Rattle.layouts.specs.Meanings.{Meaning}
 use Rattle.judgments.specs.Typing.{InRange, New, TypeFormed, Has, AllKnown}
 use Rattle.judgments.specs.Rules.{meant}
 use Rattle.judgments.specs.Predicates.{ArgumentsFormed, FirstPrincipal}
-use Rattle.types.specs.Walks.{Answer, pass}
+use Rattle.refusals.specs.declared.Refusal.{Refusal}
+use Rattle.refusals.specs.Walks.{Answer, pass}
 use Rattle.types.specs.Judged.{type-of, context-of, slot-of, slot-list, argument-of}
 use Rattle.types.specs.Rows.{term-at}
 use Rattle.types.specs.Names.{names-only, at-name}
@@ -42,15 +43,6 @@ use Rattle.judgments.specs.Contexts as judge
 use Rattle.types.specs.Theories as theories
 use Rattle.theory.specs.declared.data.Symbol.the-variants as symbol
 
--- the six numbers of a fault
-pub record Numbers : Type 0 where
-  pub number : ℕ
-  pub layer : ℕ
-  pub role : ℕ
-  pub rule : ℕ
-  pub spot : ℕ
-  pub row : ℕ
-
 abbrev pub number-of : Ill → ℕ
 number-of Taken = 10
 number-of Unformed = 11
@@ -67,12 +59,13 @@ row-of Count = 0
 row-of Undeclared = 0
 row-of (Lacks k) = k
 
-abbrev pub numbers : TypeFault → Numbers
-numbers f = record { number = number-of (f .ill); layer = 3; role = f .role; rule = f .rule; spot = f .spot; row = row-of (f .ill) }
+-- The six numbers of a fault.
+abbrev pub refusal-of : TypeFault → Refusal
+refusal-of f = record { number = number-of (f .ill); layer = 3; role = f .role; rule = f .rule; spot = f .spot; row = row-of (f .ill) }
 
-abbrev pub numbered : Answer TypeFault → Answer Numbers
+abbrev pub numbered : Answer TypeFault → Answer Refusal
 numbered (Ok u) = Ok u
-numbered (Err f) = Err (numbers f)
+numbered (Err f) = Err (refusal-of f)
 
 -- a fault, and what is demanded lest it come
 abbrev pub Lines : Type 0 → Type 1
@@ -162,5 +155,5 @@ fault-lines lay T =
     ++ lines (λ seen R. role-lines lay (vec-items (T .names)) (vec-items (T .memory)) (rows-of (T .book)) (length seen + 1) R) here [] (vec-items (T .roles)))
 
 -- the same with the six numbers
-abbrev pub theory-lines : Meaning → Theory → Lines Numbers
-theory-lines lay T = carried numbers (fault-lines lay T)
+abbrev pub theory-lines : Meaning → Theory → Lines Refusal
+theory-lines lay T = carried refusal-of (fault-lines lay T)

@@ -12,7 +12,7 @@ use Rattle.layouts.specs.Meanings.{Meaning}
 use Rattle.types.specs.Scopes.{Declarations, scope-type}
 use Rattle.types.specs.Rows.{at, row-at, fill}
 use Rattle.types.specs.Messages.{key-type, marks, has-type}
-use Rattle.types.specs.Walks.{Answer, pass, demand}
+use Rattle.refusals.specs.Walks.{Answer, pass, demand}
 use Rattle.terms.specs.declared.row.Item.{Item}
 use Rattle.terms.specs.declared.row.Item.the-variants.{Name, Variable}
 use Rattle.theory.specs.declared.data.Params.{Params}

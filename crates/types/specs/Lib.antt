@@ -1,6 +1,5 @@
 pub mod Scopes
 pub mod Types
-pub mod Walks
 pub mod Names
 pub mod Judged
 pub mod Decides
@@ -12,4 +11,4 @@ pub mod Rules
 pub mod Typed
 pub mod Theories
 pub mod Demands
-
+pub mod Reasons

@@ -7,7 +7,7 @@ use Rattle.std.specs.Options.{isSome}
 use Rattle.layouts.specs.Meanings.{Meaning}
 use Rattle.types.specs.Scopes.{Declarations, type-in}
 use Rattle.types.specs.Types.{type-formed}
-use Rattle.types.specs.Walks.{Answer, pass, demand, walk}
+use Rattle.refusals.specs.Walks.{Answer, pass, demand, walk}
 use Rattle.theory.specs.declared.data.Declared.{Declared}
 use Rattle.types.specs.declared.scope.Owner.the-variants.{Nobody}
 use Rattle.types.specs.declared.faults.Ill.{Ill}

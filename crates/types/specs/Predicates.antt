@@ -11,7 +11,7 @@ use Rattle.layouts.specs.Meanings.{Meaning}
 use Rattle.types.specs.Scopes.{type-in}
 use Rattle.types.specs.Types.{has-family}
 use Rattle.types.specs.Judged.{slot-list}
-use Rattle.types.specs.Walks.{Answer, pass, demand, and-then, walk}
+use Rattle.refusals.specs.Walks.{Answer, pass, demand, and-then, walk}
 use Rattle.theory.specs.declared.data.Declared.{Declared}
 use Rattle.theory.specs.declared.data.Slot.{Slot}
 use Rattle.theory.specs.declared.data.Argument.{Argument}

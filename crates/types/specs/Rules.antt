@@ -13,7 +13,7 @@ use Rattle.std.specs.declared.result.Result.the-variants.{Err}
 use Rattle.layouts.specs.Meanings.{Meaning}
 use Rattle.types.specs.Scopes.{Declarations}
 use Rattle.types.specs.Types.{type-formed}
-use Rattle.types.specs.Walks.{Answer, pass, demand, and-then, walk}
+use Rattle.refusals.specs.Walks.{Answer, pass, demand, and-then, walk}
 use Rattle.types.specs.Facts.{Ledger, ledger, fact-check}
 use Rattle.types.specs.Predicates.{at-spot}
 use Rattle.theory.specs.declared.data.Ty.{Ty}

@@ -11,7 +11,7 @@ use Rattle.layouts.specs.Meanings.{Meaning}
 use Rattle.judgments.specs.Contexts.{_∈_}
 use Rattle.types.specs.Scopes.{type-in}
 use Rattle.types.specs.Types.{has-family}
-use Rattle.types.specs.Walks.{Answer, pass, demand, and-then, walk}
+use Rattle.refusals.specs.Walks.{Answer, pass, demand, and-then, walk}
 use Rattle.types.specs.Names.{names-check}
 use Rattle.types.specs.Predicates.{predicates-check}
 use Rattle.types.specs.Rules.{Place, same, facts-check, rule-check}

@@ -4,21 +4,21 @@ ghost use lib.ListN.{length, take};
 ghost use Rattle.types.specs.Scopes.{scope-of};
 ghost use Rattle.types.specs.Rows.{at};
 ghost use Rattle.types.specs.Facts.{ledger-of, known-of, knowns, all-flags, slot-item, argument-type, arguments-check, fact-check};
-use theory::data::Argument;
-use terms::row::Item;
-use crate::scope::Marked;
-use theory::data::Params;
-use terms::row::Row;
-use crate::scope::Scope;
-use theory::data::Slot;
-use theory::data::Slots;
-use theory::data::Ty;
 use crate::faults::Ill;
 use crate::names::item_type;
 use crate::rows::has_type;
 use crate::rows::marked;
 use crate::rows::row;
 use crate::rows::row_type;
+use crate::scope::Marked;
+use crate::scope::Scope;
+use terms::row::Item;
+use terms::row::Row;
+use theory::data::Argument;
+use theory::data::Params;
+use theory::data::Slot;
+use theory::data::Slots;
+use theory::data::Ty;
 
 /// Whether all items in a row's term are declared, told of which rows before it they are.
 fn is_known(scope: Scope, before: &[Row], flags: &[bool], row: Row) -> bool
@@ -32,7 +32,7 @@ fn is_known(scope: Scope, before: &[Row], flags: &[bool], row: Row) -> bool
     }
 }
 
-pub fn mark_known(scope: Scope, rows: &[Row]) -> [bool; 512]
+pub(crate) fn mark_known(scope: Scope, rows: &[Row]) -> [bool; 512]
     requires { ⌜ length (now rows) ≤ 512 ⌝ }
     ensures { λ r. ⌜ take (length (now (rows .entry))) r ≡ knowns (scope-of (scope .entry)) (now (rows .entry)) ⌝ }
 {
@@ -111,7 +111,12 @@ fn check_arguments(
 }
 
 /// A fact, told the argument types of its predicate.
-pub fn check_fact(scope: Scope, book: Marked, takes: &[Argument], args: &[usize]) -> Result<(), Ill>
+pub(crate) fn check_fact(
+    scope: Scope,
+    book: Marked,
+    takes: &[Argument],
+    args: &[usize],
+) -> Result<(), Ill>
     ensures { λ r. ⌜ r ≡ fact-check (scope-of (scope .entry)) (ledger-of (book .entry)) (now (takes .entry)) (now (args .entry)) ⌝ }
 {
     if args.len() != takes.len() {

@@ -1,9 +1,9 @@
 //! The type check of a theory, over any layout.
-pub mod facts;
+mod facts;
 pub mod faults;
-pub mod names;
-pub mod predicates;
-pub mod rows;
-pub mod rules;
-pub mod scope;
+mod names;
+mod predicates;
+mod rows;
+mod rules;
+mod scope;
 pub mod theories;

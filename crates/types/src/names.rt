@@ -6,19 +6,19 @@ ghost use Rattle.types.specs.Names.{name-check, names-check, names-only};
 ghost use Rattle.types.specs.Judged.{context-of};
 ghost use Rattle.types.specs.Decides.{Passes};
 ghost use Rattle.judgments.specs.Typing.{Formed};
-use theory::data::Declared;
-use terms::row::Item;
-use crate::scope::Owner;
-use theory::data::Params;
-use crate::scope::Scope;
-use theory::data::Ty;
 use crate::faults::Ill;
 use crate::faults::TypeFault;
+use crate::scope::Owner;
+use crate::scope::Scope;
 use layouts::layout::Layout;
 use layouts::layout::Parameters;
+use terms::row::Item;
+use theory::data::Declared;
+use theory::data::Params;
+use theory::data::Ty;
 
 /// The type of a declared name.
-pub fn name_type(names: &[Declared], name: u32) -> Option<Ty>
+pub(crate) fn name_type(names: &[Declared], name: u32) -> Option<Ty>
     ensures { λ r. ⌜ r ≡ type-in (now (names .entry)) name ⌝ }
 {
     for d in names {
@@ -30,7 +30,7 @@ pub fn name_type(names: &[Declared], name: u32) -> Option<Ty>
 }
 
 /// The type that an item has by its declaration.
-pub fn item_type(scope: Scope, item: Item) -> Option<Ty>
+pub(crate) fn item_type(scope: Scope, item: Item) -> Option<Ty>
     ensures { λ r. ⌜ r ≡ scope-type (scope-of (scope .entry)) item ⌝ }
 {
     match item {
@@ -57,7 +57,7 @@ pub fn item_type(scope: Scope, item: Item) -> Option<Ty>
     }
 }
 
-pub fn is_of(scope: Scope, item: Item, family: u8) -> bool
+pub(crate) fn is_of(scope: Scope, item: Item, family: u8) -> bool
     ensures { λ r. ⌜ r ≡ suited (scope-of (scope .entry)) item family ⌝ }
 {
     match item_type(scope, item) {
@@ -66,7 +66,7 @@ pub fn is_of(scope: Scope, item: Item, family: u8) -> bool
     }
 }
 
-pub fn is_formed<L: Layout>(layout: &L, scope: Scope, of: Ty) -> bool
+pub(crate) fn is_formed<L: Layout>(layout: &L, scope: Scope, of: Ty) -> bool
     ensures { λ r. ⌜ r ≡ type-formed (meaning (now (layout .entry))) (scope-of (scope .entry)) of ⌝ }
 {
     if of.family >= layout.families() {
@@ -103,7 +103,7 @@ fn check_name<L: Layout>(layout: &L, before: &[Declared], declared: Declared) ->
 }
 
 /// The signature, name by name, each with its place.
-pub fn check_names<L: Layout>(layout: &L, names: &[Declared]) -> Result<(), TypeFault>
+pub(crate) fn check_names<L: Layout>(layout: &L, names: &[Declared]) -> Result<(), TypeFault>
     ensures answer { λ r. ⌜ r ≡ names-check (meaning (now (layout .entry))) (now (names .entry)) ⌝ }
     ensures judged { λ r. ⌜ Passes r (Formed (meaning (now (layout .entry))) (context-of (names-only (now (names .entry))))) ⌝ }
 {

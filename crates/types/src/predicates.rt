@@ -2,16 +2,16 @@ ghost use mathlib.Core.Path.{_≡_};
 ghost use Prim.Native.Nat.{_+_, _<_, _^_};
 ghost use lib.ListN.{length};
 ghost use Rattle.types.specs.Predicates.{slot-suited, argument-formed, arguments-formed, predicate-check, predicates-check};
+use crate::faults::Ill;
+use crate::faults::TypeFault;
+use crate::names::name_type;
+use layouts::layout::Layout;
+use layouts::layout::Parameters;
 use theory::data::Argument;
 use theory::data::Declared;
 use theory::data::Predicate;
 use theory::data::Slot;
 use theory::data::Slots;
-use crate::faults::Ill;
-use crate::faults::TypeFault;
-use layouts::layout::Layout;
-use layouts::layout::Parameters;
-use crate::names::name_type;
 
 /// Whether a parameter is of a family: a declared name, or an earlier argument.
 fn is_slot_of(names: &[Declared], earlier: &[Argument], slot: Slot, family: u8) -> bool
@@ -87,7 +87,7 @@ fn check_predicate<L: Layout>(
 }
 
 /// Predicates in order; the first has the spot after `base`.
-pub fn check_predicates<L: Layout>(
+pub(crate) fn check_predicates<L: Layout>(
     layout: &L,
     names: &[Declared],
     predicates: &[Predicate],

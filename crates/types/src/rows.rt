@@ -6,18 +6,18 @@ ghost use Rattle.types.specs.Scopes.{scope-of};
 ghost use Rattle.types.specs.Judged.{item-of};
 ghost use Rattle.types.specs.Rows.{at, row-at};
 ghost use Rattle.types.specs.Messages.{is-msg, sends, key-type, seals, locks, mark-of, marks, same-item, same-type, has-type};
-use terms::row::Item;
+use crate::names::item_type;
 use crate::scope::Owner;
-use theory::data::Params;
-use terms::row::Row;
 use crate::scope::Scope;
-use theory::data::Ty;
 use layouts::layout::Kind;
 use layouts::layout::Layout;
-use crate::names::item_type;
+use terms::row::Item;
+use terms::row::Row;
+use theory::data::Params;
+use theory::data::Ty;
 
 /// The most rows that a theory's book has.
-pub const MAX_ROWS: usize = 512;
+pub(crate) const MAX_ROWS: usize = 512;
 
 fn is_msg(of: Ty) -> bool
     ensures { λ r. ⌜ r ≡ is-msg of ⌝ }
@@ -28,7 +28,7 @@ fn is_msg(of: Ty) -> bool
     }
 }
 
-pub fn marked(marks: &[bool], number: usize) -> bool
+pub(crate) fn marked(marks: &[bool], number: usize) -> bool
     ensures { λ r. ⌜ r ≡ at false (now (marks .entry)) number ⌝ }
 {
     if number == 0 || number > marks.len() {
@@ -37,7 +37,7 @@ pub fn marked(marks: &[bool], number: usize) -> bool
     marks[number - 1]
 }
 
-pub fn row(rows: &[Row], number: usize) -> Option<Row>
+pub(crate) fn row(rows: &[Row], number: usize) -> Option<Row>
     ensures { λ r. ⌜ r ≡ row-at (now (rows .entry)) number ⌝ }
 {
     if number == 0 || number > rows.len() {
@@ -47,7 +47,7 @@ pub fn row(rows: &[Row], number: usize) -> Option<Row>
 }
 
 /// The type of the item that a row is.
-pub fn row_type(scope: Scope, rows: &[Row], number: usize) -> Option<Ty>
+pub(crate) fn row_type(scope: Scope, rows: &[Row], number: usize) -> Option<Ty>
     ensures { λ r. ⌜ r ≡ key-type (scope-of (scope .entry)) (now (rows .entry)) number ⌝ }
 {
     match row(rows, number) {
@@ -96,13 +96,15 @@ fn is_message<L: Layout>(layout: &L, scope: Scope, before: &[Row], marks: &[bool
     match row {
         Row::Item(item) => is_sent(layout, item_type(scope, item)),
         Row::Pair(a, b) => marked(marks, a) && marked(marks, b),
-        Row::Seal { content, key } => marked(marks, content) && does_seal(layout, row_type(scope, before, key)),
-        Row::Lock { content, key } => marked(marks, content) && does_lock(layout, row_type(scope, before, key)),
+        Row::Seal { content, key } => marked(marks, content)
+            && does_seal(layout, row_type(scope, before, key)),
+        Row::Lock { content, key } => marked(marks, content)
+            && does_lock(layout, row_type(scope, before, key)),
     }
 }
 
 /// Which rows have msg, row by row.
-pub fn mark_messages<L: Layout>(layout: &L, scope: Scope, rows: &[Row]) -> [bool; 512]
+pub(crate) fn mark_messages<L: Layout>(layout: &L, scope: Scope, rows: &[Row]) -> [bool; 512]
     requires { ⌜ length (now rows) ≤ 512 ⌝ }
     ensures { λ r. ⌜ take (length (now (rows .entry))) r ≡ marks (meaning (now (layout .entry))) (scope-of (scope .entry)) (now (rows .entry)) ⌝ }
 {
@@ -115,7 +117,7 @@ pub fn mark_messages<L: Layout>(layout: &L, scope: Scope, rows: &[Row]) -> [bool
 }
 
 /// The item as a role reads it.
-pub fn read_item(owner: Owner, item: Item) -> Item
+pub(crate) fn read_item(owner: Owner, item: Item) -> Item
     ensures { λ r. ⌜ r ≡ item-of owner item ⌝ }
 {
     match (owner, item) {
@@ -124,7 +126,7 @@ pub fn read_item(owner: Owner, item: Item) -> Item
     }
 }
 
-pub fn is_same_item(owner: Owner, a: Item, b: Item) -> bool
+pub(crate) fn is_same_item(owner: Owner, a: Item, b: Item) -> bool
     ensures { λ r. ⌜ r ≡ same-item owner a b ⌝ }
 {
     match (read_item(owner, a), read_item(owner, b)) {
@@ -150,7 +152,7 @@ fn is_same_type(owner: Owner, a: Ty, b: Ty) -> bool
 }
 
 /// Whether the term of a row has a type, told which rows have msg.
-pub fn has_type(scope: Scope, rows: &[Row], marks: &[bool], number: usize, of: Ty) -> bool
+pub(crate) fn has_type(scope: Scope, rows: &[Row], marks: &[bool], number: usize, of: Ty) -> bool
     ensures { λ r. ⌜ r ≡ has-type (scope-of (scope .entry)) (now (rows .entry)) (now (marks .entry)) number of ⌝ }
 {
     if is_msg(of) {

@@ -7,23 +7,23 @@ ghost use Rattle.std.specs.Of.Vec.{vec-items, vec-len};
 ghost use Rattle.types.specs.Scopes.{scope-of};
 ghost use Rattle.types.specs.Facts.{ledger-of};
 ghost use Rattle.types.specs.Rules.{setting-of, listed-fact, predicate-at, symbol-check, facts-with, variables-check, facts-check, parts-check, rule-check};
-use theory::data::Argument;
-use theory::data::Fact;
-use crate::scope::Marked;
-use theory::data::Predicate;
-use theory::data::Rule;
-use crate::scope::Scope;
-use crate::scope::Setting;
-use theory::data::Slots;
-use theory::data::Symbol;
-use theory::data::Ty;
 use crate::facts::check_fact;
 use crate::facts::mark_known;
 use crate::faults::Ill;
 use crate::faults::TypeFault;
-use layouts::layout::Layout;
 use crate::names::is_formed;
 use crate::rows::mark_messages;
+use crate::scope::Marked;
+use crate::scope::Scope;
+use crate::scope::Setting;
+use layouts::layout::Layout;
+use theory::data::Argument;
+use theory::data::Fact;
+use theory::data::Predicate;
+use theory::data::Rule;
+use theory::data::Slots;
+use theory::data::Symbol;
+use theory::data::Ty;
 
 /// Variables in order, after those before them.
 fn check_variables<'x, L: Layout>(
@@ -125,7 +125,7 @@ fn check_facts(
 }
 
 /// One side of a rule, over these variables.
-pub fn check_side<'x, L: Layout>(
+fn check_side<'x, L: Layout>(
     layout: &L,
     setting: Setting<'x>,
     before: &'x [Ty],
@@ -170,7 +170,7 @@ fn check_parts<'x, L: Layout>(
     check_side(layout, setting, universal, made, right, left.len())
 }
 
-pub fn check_rule<'x, L: Layout>(
+pub(crate) fn check_rule<'x, L: Layout>(
     layout: &L,
     setting: Setting<'x>,
     rule: &'x Rule,

@@ -3,27 +3,25 @@ ghost use Prim.Native.Nat.{_+_, _≤_, _<_, _^_};
 ghost use lib.ListN.{length};
 ghost use Rattle.std.specs.Of.Vec.{vec-items, vec-len};
 ghost use Rattle.types.specs.Rules.{setting-of};
-ghost use Rattle.types.specs.Theories.{Small, owner-of, anchor-check, rules-check, role-check, SmallRoles, roles-check, SmallTheory, initial-check, tables-check, theory-check};
+ghost use Rattle.types.specs.Theories.{Small, owner-of, anchor-check, rules-check, role-check, SmallRoles, roles-check, tables-check, theory-check};
 ghost use Rattle.types.specs.Typed.{TheoryTyped};
 ghost use Rattle.types.specs.Decides.{Passes};
 ghost use Rattle.types.specs.Demands.{First, theory-lines, numbered};
-use theory::data::Declared;
-use theory::data::Fact;
-use crate::scope::Owner;
-use theory::data::Predicate;
-use theory::data::Role;
-use terms::row::Row;
-use theory::data::Rule;
-use crate::scope::Setting;
-use theory::data::Theory;
 use crate::faults::Ill;
 use crate::faults::TypeFault;
-use layouts::layout::Layout;
 use crate::names::check_names;
 use crate::names::name_type;
 use crate::predicates::check_predicates;
 use crate::rules::check_rule;
-use crate::rules::check_side;
+use crate::scope::Owner;
+use crate::scope::Setting;
+use layouts::layout::Layout;
+use terms::row::Row;
+use theory::data::Declared;
+use theory::data::Predicate;
+use theory::data::Role;
+use theory::data::Rule;
+use theory::data::Theory;
 
 /// The rules of a role, in order.
 fn check_rules<'x, L: Layout>(
@@ -150,7 +148,6 @@ fn check_tables<'x, L: Layout>(
 
 /// The type check of a theory.
 pub fn check_types<L: Layout>(layout: &L, theory: &Theory) -> Result<(), TypeFault>
-    requires { ⌜ SmallTheory (now theory) ⌝ }
     ensures answer { λ r. ⌜ r ≡ theory-check (meaning (now (layout .entry))) (now (theory .entry)) ⌝ }
     ensures judged { λ r. ⌜ Passes r (TheoryTyped (meaning (now (layout .entry))) (now (theory .entry))) ⌝ }
     ensures told { λ r. ⌜ First (theory-lines (meaning (now (layout .entry))) (now (theory .entry))) (numbered r) ⌝ }
@@ -162,27 +159,4 @@ pub fn check_types<L: Layout>(layout: &L, theory: &Theory) -> Result<(), TypeFau
         theory.book.rows(),
         theory.roles.as_slice(),
     )
-}
-
-/// Initial facts, over the names alone.
-pub fn check_initial<'x, L: Layout>(
-    layout: &L,
-    names: &'x [Declared],
-    memory: &'x [Predicate],
-    rows: &'x [Row],
-    facts: &[Fact],
-) -> Result<(), TypeFault>
-    requires { ⌜ length (now rows) ≤ 512 ⌝ ∗ ⌜ length (now facts) < 2 ^ 64 ⌝ }
-    ensures { λ r. ⌜ r ≡ initial-check (meaning (now (layout .entry))) (now (names .entry)) (now (memory .entry)) (now (rows .entry)) (now (facts .entry)) ⌝ }
-{
-    let setting = Setting {
-        names,
-        memory,
-        own: &memory[0..0],
-        rows,
-        owner: Owner::Nobody,
-        role: 0,
-        rule: 0,
-    };
-    check_side(layout, setting, &[], &[], facts, 0)
 }

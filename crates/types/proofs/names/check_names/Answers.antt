@@ -1,11 +1,10 @@
-
 use mathlib.Core.Path.{_≡_, sym, _∙_}
 use mathlib.Core.List.{List}
 use borrow.Author.Needs.{needs}
 use Rattle.layouts.specs.Meanings.{Meaning}
-use Rattle.types.specs.Walks.{Answer}
+use Rattle.refusals.specs.Walks.{Answer}
 use Rattle.types.specs.Names.{name-check, at-name}
-use Rattle.types.proofs.Turns.{walk-here, walk-later, walk-none}
+use Rattle.refusals.proofs.Walking.{walk-here, walk-later, walk-none}
 use Rattle.types.proofs.Deciding.{passes-same}
 use Rattle.types.proofs.Signatures.{names-judged}
 use Rattle.types.proofs.names.check_names.Needs as need

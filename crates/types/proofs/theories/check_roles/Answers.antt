@@ -1,4 +1,3 @@
-
 use mathlib.Core.Path.{_≡_, refl, sym, ap, ap₂, _∙_}
 use mathlib.Core.List.{List}
 use native.Mathlib.Omega.{arith}
@@ -15,7 +14,7 @@ use Rattle.theory.specs.declared.data.Predicate.{Predicate}
 use Rattle.terms.specs.declared.row.Row.{Row}
 use Rattle.theory.specs.declared.data.Rule.{Rule}
 use Rattle.theory.specs.declared.data.Role.{Role}
-use Rattle.types.proofs.Turns.{walk-here-own, walk-later-own, walk-none}
+use Rattle.refusals.proofs.Walking.{walk-here-own, walk-later-own, walk-none}
 use Rattle.types.proofs.theories.check_roles.Needs as need
 
 -- the role's number is its place, and its tables are what the code lent of them

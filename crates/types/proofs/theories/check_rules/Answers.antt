@@ -1,4 +1,3 @@
-
 use mathlib.Core.Path.{_≡_, refl, sym, ap, _∙_}
 use mathlib.Core.List.{List}
 use native.Mathlib.Omega.{arith}
@@ -11,7 +10,7 @@ use Rattle.layouts.specs.Meanings.{Meaning}
 use Rattle.types.specs.Rules.{Place, setting-of, rule-check}
 use Rattle.types.specs.Theories.{here, numbered, numbered-check}
 use Rattle.theory.specs.declared.data.Rule.{Rule}
-use Rattle.types.proofs.Turns.{walk-here-own, walk-later-own, walk-none}
+use Rattle.refusals.proofs.Walking.{walk-here-own, walk-later-own, walk-none}
 use Rattle.types.proofs.theories.check_rules.Needs as need
 
 -- the rule's number is its place

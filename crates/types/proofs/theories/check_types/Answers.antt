@@ -1,4 +1,3 @@
-
 use mathlib.Core.Path.{_≡_, sym, subst, _∙_}
 use Rattle.types.specs.Theories.{theory-check}
 use Rattle.types.specs.Demands.{First, theory-lines, numbered}
