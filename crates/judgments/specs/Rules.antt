@@ -17,7 +17,7 @@ pub data Predicate : Type 0 where
 pub data Fact : Type 0 where
   fact : Predicate → List Term → Fact
 
--- A parameter of an argument's type: a declared name, or the place of an earlier argument, counted from 0.
+-- A parameter of an argument's type: a declared name, or an argument further left by its place from 0.
 pub data Place : Type 0 where
   named place : ℕ → Place
 

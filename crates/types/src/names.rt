@@ -102,7 +102,7 @@ fn check_name<L: Layout>(layout: &L, before: &[Declared], declared: Declared) ->
     Ok(())
 }
 
-/// The signature, name by name, each with its place.
+/// The signature; a fault's spot is the place of the name.
 pub(crate) fn check_names<L: Layout>(layout: &L, names: &[Declared]) -> Result<(), TypeFault>
     ensures answer { λ r. ⌜ r ≡ names-check (meaning (now (layout .entry))) (now (names .entry)) ⌝ }
     ensures judged { λ r. ⌜ Passes r (Formed (meaning (now (layout .entry))) (context-of (names-only (now (names .entry))))) ⌝ }

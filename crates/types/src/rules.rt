@@ -152,7 +152,7 @@ fn check_side<'x, L: Layout>(
     check_facts(scope, book, setting, facts, base)
 }
 
-/// The parts of a rule: its universal variables, left facts, made variables and right facts.
+/// The parts of a rule, in the order in which they are checked.
 fn check_parts<'x, L: Layout>(
     layout: &L,
     setting: Setting<'x>,

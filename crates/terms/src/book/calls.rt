@@ -64,7 +64,7 @@ impl Book {
         ensures { λ r. ⌜ Added (rows-of (now (self .entry))) (capacity-of (now (self .entry))) row (rows-of (now (self .exit))) r ⌝ }
     {
         self.admit(row)?;
-        if let Some(place) = earliest_place(self.rows.as_slice(), &row) {
+        if let Some(place) = earliest_place(self.rows(), &row) {
             return Ok(place + 1);
         }
         if self.rows.len() >= MAX_ROWS {

@@ -1,7 +1,8 @@
-use mathlib.Core.Path.{sym}
+use mathlib.Core.Path.{sym, ap}
 use borrow.Author.Needs.{needs}
 use native.Mathlib.Omega.{arith}
 use Prim.Native.Nat.{_<_}
+use lib.ListN.{length}
 use Rattle.std.specs.Of.Vec.{vec-len}
 use Rattle.earliest.proofs.Turns.{earliest-within}
 use Rattle.terms.specs.Rows.{same-row}
@@ -9,7 +10,7 @@ use Rattle.terms.proofs.Following.{follows-push}
 use Rattle.terms.proofs.book.Book.add.Needs as need
 
 within : (c : need.In-Some) → c .in-Some .place < vec-len (c .args .self .now .rows)
-within c = omega (arith, earliest-within same-row _ 0 (c .as-slice .result .now) (c .in-Some .place) (sym (c .in-Some .ensures tt .value)), c .as-slice .ensures .len)
+within c = omega (arith, earliest-within same-row _ 0 (c .rows .result .now) (c .in-Some .place) (sym (c .in-Some .ensures tt .value)), ap length (c .rows .ensures .value), c .args .self .now .rows .ok .0)
 
 pub add-result : need.add-result
 add-result c = let w = within c in search needs
