@@ -2,7 +2,7 @@
 use mathlib.Core.Path.{_≡_}
 use mathlib.Core.Logic.{_⊎_}
 use mathlib.Core.Bool.{Bool, true, false}
-use mathlib.Core.List.{List, []}
+use mathlib.Core.List.{List, [], _∷_, _++_}
 use Prim.Native.Nat.{ℕ, max}
 use lib.ListN.{length}
 use Rattle.std.specs.declared.option.Option.{Option}
@@ -10,6 +10,8 @@ use Rattle.std.specs.declared.option.Option.the-variants.{Some, None}
 use Rattle.std.specs.declared.result.Result.{Result}
 use Rattle.std.specs.declared.result.Result.the-variants.{Ok, Err}
 use Rattle.layouts.specs.declared.any.AnyLayout.{AnyLayout}
+use Rattle.layouts.specs.Any.{meaning-of}
+use Rattle.layouts.specs.Meanings.{Meaning}
 use Rattle.names.specs.Any.{View, counting, reading}
 use Rattle.names.specs.Rolls.{load-answer}
 use Rattle.names.specs.Withheld.{withhold-answer}
@@ -21,26 +23,47 @@ use Rattle.script.specs.Said.{Said, SaidLine}
 use Rattle.terms.specs.Adding.{Added}
 use Rattle.terms.specs.declared.faults.BookFault.{BookFault}
 use Rattle.terms.specs.declared.row.Row.{Row}
-use Rattle.bench.specs.States.{State}
+use Rattle.terms.specs.Held.{capacity-of}
+use Rattle.theory.specs.Tables.{tables-check}
+use Rattle.theory.specs.declared.data.Argument.{Argument}
+use Rattle.theory.specs.declared.data.Declared.{Declared}
+use Rattle.theory.specs.declared.data.Theory.{Theory}
+use Rattle.theory.specs.declared.faults.TableFault.{TableFault}
+use Rattle.types.specs.Theories.{theory-check}
+use Rattle.types.specs.declared.faults.TypeFault.{TypeFault}
+use Rattle.bench.specs.States.{State, Written, nothing}
 use Rattle.bench.specs.declared.answer.Answer.{Answer}
 use Rattle.bench.specs.declared.answer.Answer.the-variants as answer
 use Rattle.bench.specs.declared.faults.Fault.the-variants as fault
 
-abbrev pub with-rows : State → List Row → State
-with-rows s rows = record { rows = rows; layout = s .layout; source = s .source; layered = s .layered; withheld = s .withheld }
+-- ---- changes of the theory
+abbrev pub with-rows : Written → List Row → Written
+with-rows w rows = record { rows = rows; names = w .names; memory = w .memory }
+
+-- one name more
+abbrev pub with-name : Written → Declared → Written
+with-name w d = record { rows = w .rows; names = w .names ++ (d ∷ []); memory = w .memory }
+
+-- one memory predicate more
+abbrev pub with-memory : Written → List Argument → Written
+with-memory w arguments = record { rows = w .rows; names = w .names; memory = w .memory ++ (arguments ∷ []) }
+
+-- ---- changes of the state
+abbrev pub with-theory : State → Written → State
+with-theory s w = record { theory = w; layout = s .layout; source = s .source; layered = s .layered; withheld = s .withheld }
 
 abbrev pub with-layout : State → AnyLayout → State
-with-layout s l = record { rows = s .rows; layout = l; source = s .source; layered = s .layered; withheld = s .withheld }
+with-layout s l = record { theory = s .theory; layout = l; source = s .source; layered = s .layered; withheld = s .withheld }
 
 -- A source that was just chosen has no layer over it.
 abbrev pub with-source : State → View → State
-with-source s v = record { rows = s .rows; layout = s .layout; source = v; layered = false; withheld = [] }
+with-source s v = record { theory = s .theory; layout = s .layout; source = v; layered = false; withheld = [] }
 
 abbrev pub with-list : State → List ℕ → State
-with-list s xs = record { rows = s .rows; layout = s .layout; source = reading xs; layered = s .layered; withheld = s .withheld }
+with-list s xs = record { theory = s .theory; layout = s .layout; source = reading xs; layered = s .layered; withheld = s .withheld }
 
 abbrev pub with-layer : State → List ℕ → State
-with-layer s xs = record { rows = s .rows; layout = s .layout; source = s .source; layered = true; withheld = xs }
+with-layer s xs = record { theory = s .theory; layout = s .layout; source = s .source; layered = true; withheld = xs }
 
 -- ---- rows
 abbrev pub by-number : Result ℕ BookFault → Answer
@@ -50,12 +73,28 @@ by-number (Err f) = answer.Refused (fault.Book f)
 -- The row is added to a book with memory for so many rows.
 abbrev pub RowAdded : ℕ → State → Row → State → Answer → Type 0
 RowAdded capacity s r t a =
-    (result : Result ℕ BookFault) × Added (s .rows) capacity r (t .rows) result × (a ≡ by-number result) × (t ≡ with-rows s (t .rows))
+    (result : Result ℕ BookFault) × Added (s .theory .rows) capacity r (t .theory .rows) result × (a ≡ by-number result) × (t ≡ with-theory s (with-rows (s .theory) (t .theory .rows)))
+
+-- ---- the other tables
+-- The change is made, unless there is no memory for it.
+abbrev pub Kept : State → State → State → Answer → Type 0
+Kept s after t a = ((t ≡ after) × (a ≡ answer.Noted)) ⊎ ((t ≡ s) × (a ≡ answer.Refused (fault.List NoMemory)))
+
+-- The tables are checked before the types.
+abbrev pub by-types : Result (Unit {0}) TypeFault → Answer
+by-types (Ok u) = answer.Passed
+by-types (Err f) = answer.Refused (fault.Typing f)
+
+abbrev pub by-tables : Result (Unit {0}) TableFault → Answer → Answer
+by-tables (Ok u) a = a
+by-tables (Err f) a = answer.Refused (fault.Table f)
+
+abbrev pub check-answer : Meaning → Theory → Answer
+check-answer lay T = by-tables (tables-check T []) (by-types (theory-check lay T))
 
 -- ---- sources
--- A source is chosen, unless there is no memory for it.
 abbrev pub Chosen : State → View → State → Answer → Type 0
-Chosen s v t a = ((t ≡ with-source s v) × (a ≡ answer.Noted)) ⊎ ((t ≡ s) × (a ≡ answer.Refused (fault.List NoMemory)))
+Chosen s v t a = Kept s (with-source s v) t a
 
 -- The layer goes over a source once.
 abbrev pub Layers : Bool → State → State → Answer → Type 0
@@ -78,22 +117,25 @@ Withholds false s xs t a = (t ≡ s) × (a ≡ answer.NotUnderstood)
 Withholds true s xs t a = Taken (withhold-answer xs) s (with-layer s xs) (answer.Withheld (length xs)) t a
 
 -- ---- lines
--- What a command does, from one state to another, and its answer.
-abbrev pub Carried : ℕ → State → Said → State → Answer → Type 0
-Carried capacity s (said.row r) t a = RowAdded capacity s r t a
-Carried capacity s said.new t a = (t ≡ with-rows s []) × (a ≡ answer.Noted)
-Carried capacity s (said.layout l) t a = (t ≡ with-layout s l) × (a ≡ answer.Noted)
-Carried capacity s (said.counter n) t a = Chosen s (counting (max n 1)) t a
-Carried capacity s said.roll t a = Chosen s (reading []) t a
-Carried capacity s said.withholding t a = Layers (s .layered) s t a
-Carried capacity s (said.load xs) t a = Loaded (s .source) s xs t a
-Carried capacity s (said.withhold xs) t a = Withholds (s .layered) s xs t a
+-- What a command does, from one state to another, and its answer, over the theory that the state shows.
+abbrev pub Carried : Theory → State → Said → State → Answer → Type 0
+Carried T s (said.row r) t a = RowAdded (capacity-of (T .book)) s r t a
+Carried T s said.new t a = (t ≡ with-theory s nothing) × (a ≡ answer.Noted)
+Carried T s (said.layout l) t a = (t ≡ with-layout s l) × (a ≡ answer.Noted)
+Carried T s (said.counter n) t a = Chosen s (counting (max n 1)) t a
+Carried T s said.roll t a = Chosen s (reading []) t a
+Carried T s said.withholding t a = Layers (s .layered) s t a
+Carried T s (said.load xs) t a = Loaded (s .source) s xs t a
+Carried T s (said.withhold xs) t a = Withholds (s .layered) s xs t a
+Carried T s (said.name d) t a = Kept s (with-theory s (with-name (s .theory) d)) t a
+Carried T s (said.memory arguments) t a = Kept s (with-theory s (with-memory (s .theory) arguments)) t a
+Carried T s said.check t a = (t ≡ s) × (a ≡ check-answer (meaning-of (s .layout)) T)
 
 -- A line that is only echoed has no answer; it changes nothing, as one that can't be read.
-abbrev pub LineAnswered : ℕ → State → SaidLine → State → Option Answer → Type 0
-LineAnswered capacity s said.silent t a = (t ≡ s) × (a ≡ None)
-LineAnswered capacity s said.unreadable t a = (t ≡ s) × (a ≡ Some answer.NotUnderstood)
-LineAnswered capacity s (said.commands c) t a = (b : Answer) × (a ≡ Some b) × Carried capacity s c t b
+abbrev pub LineAnswered : Theory → State → SaidLine → State → Option Answer → Type 0
+LineAnswered T s said.silent t a = (t ≡ s) × (a ≡ None)
+LineAnswered T s said.unreadable t a = (t ≡ s) × (a ≡ Some answer.NotUnderstood)
+LineAnswered T s (said.commands c) t a = (b : Answer) × (a ≡ Some b) × Carried T s c t b
 
-abbrev pub Answered : ℕ → State → List ℕ → State → Option Answer → Type 0
-Answered capacity s bytes t a = (l : SaidLine) × Reads bytes l × LineAnswered capacity s l t a
+abbrev pub Answered : Theory → State → List ℕ → State → Option Answer → Type 0
+Answered T s bytes t a = (l : SaidLine) × Reads bytes l × LineAnswered T s l t a

@@ -1,18 +1,40 @@
 -- What a script works on.
 use mathlib.Core.Bool.{Bool, false}
-use mathlib.Core.List.{List, []}
+use mathlib.Core.List.{List, [], map}
 use Prim.Native.Nat.{ℕ}
+use Rattle.std.specs.Of.Vec.{vec-items}
 use Rattle.layouts.specs.declared.any.AnyLayout.{AnyLayout}
 use Rattle.layouts.specs.declared.any.AnyLayout.the-variants as any
 use Rattle.names.specs.Any.{View, reading, view-of}
 use Rattle.names.specs.Layered.{below-of, withheld-of}
 use Rattle.terms.specs.Held.{rows-of}
 use Rattle.terms.specs.declared.row.Row.{Row}
+use Rattle.theory.specs.declared.data.Argument.{Argument}
+use Rattle.theory.specs.declared.data.Declared.{Declared}
+use Rattle.theory.specs.declared.data.Predicate.{Predicate}
+use Rattle.theory.specs.declared.data.Theory.{Theory}
 use Rattle.bench.specs.declared.desk.Desk.{Desk}
 
-pub record State : Type 0 where
-  -- the rows of the theory's book
+-- A theory as a script wrote it down, apart from the memory that holds it.
+pub record Written : Type 0 where
+  -- the rows of its book
   pub rows : List Row
+  -- its names with their types
+  pub names : List Declared
+  -- its memory predicates, by the types of their arguments
+  pub memory : List (List Argument)
+
+abbrev pub arguments-of : List Predicate → List (List Argument)
+arguments-of Ps = map (λ P. vec-items (P .arguments)) Ps
+
+abbrev pub written-of : Theory → Written
+written-of T = record { rows = rows-of (T .book); names = vec-items (T .names); memory = arguments-of (vec-items (T .memory)) }
+
+abbrev pub nothing : Written
+nothing = record { rows = []; names = []; memory = [] }
+
+pub record State : Type 0 where
+  pub theory : Written
   -- the layout, and the source, for the next session
   pub layout : AnyLayout
   pub source : View
@@ -22,13 +44,13 @@ pub record State : Type 0 where
 
 abbrev pub state-of : Desk → State
 state-of d = record {
-  rows = rows-of (d .book);
+  theory = written-of (d .theory);
   layout = d .layout;
   source = view-of (below-of (d .source));
   layered = d .layered;
   withheld = withheld-of (d .source);
 }
 
--- At first: no rows, the report layout, an empty roll without a layer.
+-- At first: an empty theory, the report layout, an empty roll without a layer.
 abbrev pub empty : State
-empty = record { rows = []; layout = any.Report record {}; source = reading []; layered = false; withheld = [] }
+empty = record { theory = nothing; layout = any.Report record {}; source = reading []; layered = false; withheld = [] }

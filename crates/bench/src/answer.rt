@@ -15,6 +15,8 @@ pub enum Answer {
     Loaded(usize),
     /// A list of so many numbers is withheld.
     Withheld(usize),
+    /// The theory passed its checks.
+    Passed,
     /// The call was refused.
     Refused(Fault),
     /// The line could not be read.
@@ -30,6 +32,7 @@ pub impl fmt::Display for Answer as AnswerDisplay {
             Answer::Noted => write!(f, "noted"),
             Answer::Loaded(count) => write!(f, "loaded {count}"),
             Answer::Withheld(count) => write!(f, "withheld {count}"),
+            Answer::Passed => write!(f, "ok"),
             Answer::Refused(fault) => {
                 let refusal = fault.refusal();
                 let reason = fault.reason();

@@ -3,14 +3,16 @@ ghost use mathlib.Core.List.{[]};
 ghost use Rattle.std.specs.Of.Vec.{vec-items};
 ghost use Rattle.std.specs.Results.{Cases};
 ghost use Rattle.std.specs.Vec.{made};
+ghost use Rattle.layouts.specs.Any.{meaning-of};
 ghost use Rattle.names.specs.Any.{view-of};
 ghost use Rattle.script.specs.Said.{said};
 ghost use Rattle.terms.specs.Held.{capacity-of};
-ghost use Rattle.bench.specs.States.{state-of, empty};
-ghost use Rattle.bench.specs.Playing.{RowAdded, Chosen, Layers, Loaded, Withholds, Carried, Answered};
+ghost use Rattle.bench.specs.States.{written-of, nothing, state-of, empty};
+ghost use Rattle.bench.specs.Playing.{with-name, with-memory, with-theory, RowAdded, Kept, check-answer, Chosen, Layers, Loaded, Withholds, Carried, Answered};
 use crate::answer::Answer;
 use crate::faults::Fault;
 use layouts::any::AnyLayout;
+use layouts::any::AnyLayoutLayout;
 use layouts::report::Report;
 use names::any::AnySource;
 use names::any::AnySourceSource;
@@ -25,6 +27,25 @@ use std::alloc::AllocError;
 use std::alloc::Global;
 use terms::book::Book;
 use terms::row::Row;
+use theory::data::Argument;
+use theory::data::Declared;
+use theory::data::Fact;
+use theory::data::Predicate;
+use theory::data::Theory;
+use theory::tables::check_tables;
+use types::theories::check_types;
+
+/// A theory with nothing in it.
+fn blank(heap: Global) -> Theory
+    ensures { λ r. ⌜ written-of r ≡ nothing ⌝ }
+{
+    Theory {
+        book: Book::new(heap),
+        names: Vec::new(heap),
+        memory: Vec::new(heap),
+        roles: Vec::new(heap),
+    }
+}
 
 /// What a script works on: the theory that it writes down, and the layout and the source for the
 /// next session. The source always has a withholding layer over it, which withholds nothing until
@@ -32,7 +53,7 @@ use terms::row::Row;
 #[derive(Drop)]
 pub struct Desk {
     heap: Global,
-    book: Book,
+    theory: Theory,
     layout: AnyLayout,
     source: Withholding<AnySource>,
     layered: bool,
@@ -49,7 +70,7 @@ impl Desk {
         match Withholding::new(heap, AnySource::Roll(roll)) {
             Ok(source) => Ok(Desk {
                 heap,
-                book: Book::new(heap),
+                theory: blank(heap),
                 layout: AnyLayout::Report(Report),
                 source,
                 layered: false,
@@ -60,7 +81,7 @@ impl Desk {
 
     /// Answers a line of a script; `None` where the line is only echoed.
     pub fn answer(&mut self, line: &[u8]) -> Result<Option<Answer>, AllocError>
-        ensures { λ r. ⌜ Cases r (Answered (capacity-of (now (self .entry) .book)) (state-of (now (self .entry))) (now (line .entry)) (state-of (now (self .exit)))) (λ _. now (self .exit) ≡ now (self .entry)) ⌝ }
+        ensures { λ r. ⌜ Cases r (Answered (now (self .entry) .theory) (state-of (now (self .entry))) (now (line .entry)) (state-of (now (self .exit)))) (λ _. now (self .exit) ≡ now (self .entry)) ⌝ }
     {
         match read_line(self.heap, line)? {
             Line::Silent => Ok(None),
@@ -71,12 +92,12 @@ impl Desk {
 
     /// Carries out a command.
     fn carry_out(&mut self, command: Command) -> Answer
-        ensures { λ r. ⌜ Carried (capacity-of (now (self .entry) .book)) (state-of (now (self .entry))) (said command) (state-of (now (self .exit))) r ⌝ }
+        ensures { λ r. ⌜ Carried (now (self .entry) .theory) (state-of (now (self .entry))) (said command) (state-of (now (self .exit))) r ⌝ }
     {
         match command {
             Command::Row(row) => self.add_row(row),
             Command::New => {
-                self.book = Book::new(self.heap);
+                self.theory = blank(self.heap);
                 Answer::Noted
             }
             Command::Layout(layout) => {
@@ -91,16 +112,53 @@ impl Desk {
             Command::Withholding => self.add_layer(),
             Command::Load(numbers) => self.load(numbers.as_slice()),
             Command::Withhold(numbers) => self.withhold(numbers.as_slice()),
+            Command::Name(declared) => self.declare(declared),
+            Command::Memory(arguments) => self.add_memory(arguments),
+            Command::Check => self.check(),
         }
     }
 
     /// Adds a row to the theory's book.
     fn add_row(&mut self, row: Row) -> Answer
-        ensures { λ r. ⌜ RowAdded (capacity-of (now (self .entry) .book)) (state-of (now (self .entry))) row (state-of (now (self .exit))) r ⌝ }
+        ensures { λ r. ⌜ RowAdded (capacity-of (now (self .entry) .theory .book)) (state-of (now (self .entry))) row (state-of (now (self .exit))) r ⌝ }
     {
-        match self.book.add(row) {
+        match self.theory.book.add(row) {
             Ok(number) => Answer::Row(number),
             Err(fault) => Answer::Refused(Fault::Book(fault)),
+        }
+    }
+
+    /// Declares a name.
+    fn declare(&mut self, declared: Declared) -> Answer
+        ensures { λ r. ⌜ Kept (state-of (now (self .entry))) (with-theory (state-of (now (self .entry))) (with-name (state-of (now (self .entry)) .theory) declared)) (state-of (now (self .exit))) r ⌝ }
+    {
+        match self.theory.names.push(declared) {
+            Ok(()) => Answer::Noted,
+            Err(_) => Answer::Refused(Fault::List(ListFault::NoMemory)),
+        }
+    }
+
+    /// Adds a memory predicate.
+    fn add_memory(&mut self, arguments: Vec<Argument>) -> Answer
+        ensures { λ r. ⌜ Kept (state-of (now (self .entry))) (with-theory (state-of (now (self .entry))) (with-memory (state-of (now (self .entry)) .theory) (vec-items arguments))) (state-of (now (self .exit))) r ⌝ }
+    {
+        if self.theory.memory.push(Predicate { arguments }).is_err() {
+            return Answer::Refused(Fault::List(ListFault::NoMemory));
+        }
+        Answer::Noted
+    }
+
+    /// Checks the tables and the types of the theory.
+    fn check(&self) -> Answer
+        ensures { λ r. ⌜ r ≡ check-answer (meaning-of (now (self .entry) .layout)) (now (self .entry) .theory) ⌝ }
+    {
+        let initial: Vec<Fact> = Vec::new(self.heap);
+        if let Err(fault) = check_tables(&self.theory, initial.as_slice()) {
+            return Answer::Refused(Fault::Table(fault));
+        }
+        match check_types(&self.layout, &self.theory) {
+            Ok(()) => Answer::Passed,
+            Err(fault) => Answer::Refused(Fault::Typing(fault)),
         }
     }
 

@@ -3,12 +3,16 @@ ghost use Rattle.bench.specs.Faults.{refusal-of, reason-of};
 use names::faults::ListFault;
 use refusals::Refusal;
 use terms::faults::BookFault;
+use theory::faults::TableFault;
+use types::faults::TypeFault;
 
 /// The fault of a refused call, whole.
 #[derive(Clone, Copy)]
 pub enum Fault {
     Book(BookFault),
     List(ListFault),
+    Table(TableFault),
+    Typing(TypeFault),
 }
 
 impl Fault {
@@ -19,6 +23,8 @@ impl Fault {
         match self {
             Fault::Book(fault) => fault.refusal(),
             Fault::List(fault) => fault.refusal(),
+            Fault::Table(fault) => fault.refusal(),
+            Fault::Typing(fault) => fault.refusal(),
         }
     }
 
@@ -29,6 +35,8 @@ impl Fault {
         match self {
             Fault::Book(fault) => fault.reason(),
             Fault::List(fault) => fault.reason(),
+            Fault::Table(fault) => fault.reason(),
+            Fault::Typing(fault) => fault.reason(),
         }
     }
 }

@@ -17,7 +17,8 @@ use Rattle.std.proofs.shelf.Tests.{cases-bool, eqb-true, eqb-false}
 use Rattle.std.specs.declared.option.Option.{Option}
 use Rattle.std.specs.declared.option.Option.the-variants.{Some, None}
 use Rattle.script.specs.Said as said
-use Rattle.script.specs.Commands.{Word, compound-by, of-both, row-of, plain-of, command-of}
+use Rattle.script.specs.Lists.{Word}
+use Rattle.script.specs.Commands.{compound-by, of-both, row-of, declared-of, more-of, plain-of, command-of}
 
 -- two words that differ
 pub unlike : (w k : Word) → (w ≡ k → ⊥) → sameBytes w k ≡ false
@@ -72,7 +73,13 @@ pub no-words : (ws : List (RefT Word)) → length ws ≡ 0 → told ws ≡ []
 no-words [] e = refl
 no-words (a ∷ ws) e = absurd (omega arith)
 
-pub more-words : (head : Word) (ws : List (RefT Word)) → 2 ≤ length ws → plain-of head (told ws) ≡ cond (sameBytes head (codes "row")) (mapped said.row (row-of (told ws))) None
+pub more-words : (head : Word) (ws : List (RefT Word)) → 2 ≤ length ws → plain-of head (told ws) ≡ more-of head (told ws)
 more-words head [] h = absurd (omega arith)
 more-words head (a ∷ []) h = absurd (omega arith)
 more-words head (a ∷ b ∷ ws) h = refl
+
+pub no-name : (ws : List (RefT Word)) → (length ws ≡ 2 → ⊥) → None ≡ declared-of (told ws)
+no-name [] p = refl
+no-name (a ∷ []) p = refl
+no-name (a ∷ b ∷ []) p = absurd (p refl)
+no-name (a ∷ b ∷ c ∷ ws) p = refl

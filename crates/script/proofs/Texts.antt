@@ -8,7 +8,8 @@ use denote.Ref.{RefT}
 use Rattle.std.specs.Text.{Utf8}
 use Rattle.std.specs.declared.option.Option.{Option}
 use Rattle.script.specs.Words.{words}
-use Rattle.script.specs.Commands.{Word, command-of}
+use Rattle.script.specs.Lists.{Word}
+use Rattle.script.specs.Commands.{command-of}
 use Rattle.script.specs.Lines.{is-silent, by-command, Reads}
 use Rattle.script.specs.Said.{Said}
 use Rattle.script.proofs.Matching.{told}

@@ -12,13 +12,12 @@ use Rattle.layouts.specs.declared.any.AnyLayout.the-variants as any
 use Rattle.terms.specs.declared.row.Item.the-variants.{Name, Variable}
 use Rattle.terms.specs.declared.row.Row.{Row}
 use Rattle.terms.specs.declared.row.Row.the-variants as row
+use Rattle.theory.specs.declared.data.Declared.{Declared}
+use Rattle.script.specs.Types.{both, type-of, argument-of}
+use Rattle.script.specs.Lists.{Word, name-of, all-of}
 use Rattle.script.specs.Numbers.{number-up-to}
 use Rattle.script.specs.Said as said
 use Rattle.script.specs.Said.{Said}
-
--- A word of a line, as its bytes.
-abbrev pub Word : Type 0
-Word = List ℕ
 
 -- `name N` and `variable N`: a name's number has 32 bits, a variable's 8.
 abbrev pub item-of : Word → Word → Option Row
@@ -56,22 +55,13 @@ layout-of w =
     cond (sameBytes w (codes "report")) (Some (any.Report record {}))
     (cond (sameBytes w (codes "keyserver")) (Some (any.KeyServer record {})) None)
 
-abbrev pub cons-both : Option ℕ → Option (List ℕ) → Option (List ℕ)
-cons-both None ns = None
-cons-both (Some n) None = None
-cons-both (Some n) (Some ns) = Some (n ∷ ns)
-
--- The numbers of names, each of 32 bits.
-abbrev pub names-of : List Word → Option (List ℕ)
-names-of [] = Some []
-names-of (w ∷ ws) = cons-both (number-up-to 4294967295 w) (names-of ws)
-
 -- A command of one word.
 abbrev pub alone-of : Word → Option Said
 alone-of head =
     cond (sameBytes head (codes "new")) (Some said.new)
     (cond (sameBytes head (codes "roll")) (Some said.roll)
-    (cond (sameBytes head (codes "withholding")) (Some said.withholding) None))
+    (cond (sameBytes head (codes "withholding")) (Some said.withholding)
+    (cond (sameBytes head (codes "check")) (Some said.check) None)))
 
 -- A command of two words.
 abbrev pub one-of : Word → Word → Option Said
@@ -79,17 +69,34 @@ one-of head w =
     cond (sameBytes head (codes "layout")) (mapped said.layout (layout-of w))
     (cond (sameBytes head (codes "counter")) (mapped said.counter (number-up-to 4294967295 w)) None)
 
+-- A name's number, of 32 bits, and its type.
+abbrev pub name-with : Word → Word → Option Declared
+name-with n w = both (λ k t. record { name = k; of = t }) (number-up-to 4294967295 n) (type-of w)
+
+abbrev pub declared-of : List Word → Option Declared
+declared-of [] = None
+declared-of (n ∷ []) = None
+declared-of (n ∷ w ∷ []) = name-with n w
+declared-of (n ∷ w ∷ v ∷ ws) = None
+
+-- A command of three words or more.
+abbrev pub more-of : Word → List Word → Option Said
+more-of head rest =
+    cond (sameBytes head (codes "row")) (mapped said.row (row-of rest))
+    (cond (sameBytes head (codes "name")) (mapped said.name (declared-of rest)) None)
+
 -- A command that holds no list.
 abbrev pub plain-of : Word → List Word → Option Said
 plain-of head [] = alone-of head
 plain-of head (w ∷ []) = one-of head w
-plain-of head (w ∷ v ∷ ws) = cond (sameBytes head (codes "row")) (mapped said.row (row-of (w ∷ v ∷ ws))) None
+plain-of head (w ∷ v ∷ ws) = more-of head (w ∷ v ∷ ws)
 
 -- The command that begins with the word.
 abbrev pub headed-of : Word → List Word → Option Said
 headed-of head rest =
-    cond (sameBytes head (codes "load")) (mapped said.load (names-of rest))
-    (cond (sameBytes head (codes "withhold")) (mapped said.withhold (names-of rest)) (plain-of head rest))
+    cond (sameBytes head (codes "load")) (mapped said.load (all-of name-of rest))
+    (cond (sameBytes head (codes "withhold")) (mapped said.withhold (all-of name-of rest))
+    (cond (sameBytes head (codes "memory")) (mapped said.memory (all-of argument-of rest)) (plain-of head rest)))
 
 abbrev pub command-of : List Word → Option Said
 command-of [] = None

@@ -1,12 +1,17 @@
 ghost use mathlib.Core.Path.{_≡_};
 ghost use mathlib.Core.List.{map};
-ghost use Rattle.std.specs.Of.Vec.{vec-items};
 ghost use Rattle.std.specs.Options.{mapped};
 ghost use Rattle.std.specs.Vec.{made};
-ghost use Rattle.script.specs.Said.{load, withhold, said, said-line};
-ghost use Rattle.script.specs.Commands.{item-of, compound-of, row-of, layout-of, names-of, alone-of, one-of, plain-of, headed-of, command-of};
+ghost use Rattle.script.specs.Said.{load, withhold, memory, said, said-line};
+ghost use Rattle.script.specs.Commands.{item-of, compound-of, row-of, layout-of, alone-of, one-of, name-with, declared-of, more-of, plain-of, headed-of, command-of};
+ghost use Rattle.script.specs.Lists.{name-of, all-of};
+ghost use Rattle.script.specs.Types.{argument-of};
 ghost use Rattle.script.specs.Lines.{is-silent, Reads};
 use crate::numbers::read_number;
+use crate::readable::NameReadable;
+use crate::readable::read_list;
+use crate::types::ArgumentReadable;
+use crate::types::read_type;
 use crate::words::split_words;
 use layouts::any::AnyLayout;
 use layouts::key_server::KeyServer;
@@ -16,6 +21,8 @@ use std::alloc::Global;
 use std::str::from_utf8;
 use terms::row::Item;
 use terms::row::Row;
+use theory::data::Argument;
+use theory::data::Declared;
 
 /// A command of a script.
 #[derive(Drop)]
@@ -36,6 +43,12 @@ pub enum Command {
     Load(Vec<u32>),
     /// `withhold ..`: sets the layer's list.
     Withhold(Vec<u32>),
+    /// `name ..`: declares a name with its type.
+    Name(Declared),
+    /// `memory ..`: a memory predicate with its argument types.
+    Memory(Vec<Argument>),
+    /// `check`: checks the theory.
+    Check,
 }
 
 /// What a line of a script is.
@@ -94,6 +107,7 @@ fn read_headed(heap: Global, head: &str, rest: &[&str]) -> Result<Option<Command
     match head {
         "load" => read_load(heap, rest),
         "withhold" => read_withhold(heap, rest),
+        "memory" => read_memory(heap, rest),
         _ => Ok(read_plain(head, rest)),
     }
 }
@@ -105,11 +119,7 @@ fn read_plain(head: &str, rest: &[&str]) -> Option<Command>
     match rest {
         [] => read_alone(head),
         [word] => read_one(head, word),
-        _ => if head == "row" {
-            Some(Command::Row(read_row(rest)?))
-        } else {
-            None
-        },
+        _ => read_more(head, rest),
     }
 }
 
@@ -121,6 +131,7 @@ fn read_alone(head: &str) -> Option<Command>
         "new" => Some(Command::New),
         "roll" => Some(Command::Roll),
         "withholding" => Some(Command::Withholding),
+        "check" => Some(Command::Check),
         _ => None,
     }
 }
@@ -136,6 +147,36 @@ fn read_one(head: &str, word: &str) -> Option<Command>
     }
 }
 
+/// A command of three words or more.
+fn read_more(head: &str, rest: &[&str]) -> Option<Command>
+    ensures { λ r. ⌜ mapped said r ≡ more-of (now (head .entry)) (map (λ w. now w) (now (rest .entry))) ⌝ }
+{
+    match head {
+        "row" => Some(Command::Row(read_row(rest)?)),
+        "name" => Some(Command::Name(read_declared(rest)?)),
+        _ => None,
+    }
+}
+
+/// A name's number and its type.
+fn read_declared(words: &[&str]) -> Option<Declared>
+    ensures { λ r. ⌜ r ≡ declared-of (map (λ w. now w) (now (words .entry))) ⌝ }
+{
+    let [name, of] = words else {
+        return None;
+    };
+    read_name(name, of)
+}
+
+/// The declaration of a name.
+fn read_name(name: &str, of: &str) -> Option<Declared>
+    ensures { λ r. ⌜ r ≡ name-with (now (name .entry)) (now (of .entry)) ⌝ }
+{
+    let name = read_number(name, 4_294_967_295)? as u32;
+    let of = read_type(of)?;
+    Some(Declared { name, of })
+}
+
 /// A layout by its word.
 fn read_layout(word: &str) -> Option<AnyLayout>
     ensures { λ r. ⌜ r ≡ layout-of (now (word .entry)) ⌝ }
@@ -149,9 +190,9 @@ fn read_layout(word: &str) -> Option<AnyLayout>
 
 /// The list to load.
 fn read_load(heap: Global, words: &[&str]) -> Result<Option<Command>, AllocError>
-    ensures { λ r. ⌜ made r (λ c. mapped said c ≡ mapped load (names-of (map (λ w. now w) (now (words .entry))))) ⌝ }
+    ensures { λ r. ⌜ made r (λ c. mapped said c ≡ mapped load (all-of name-of (map (λ w. now w) (now (words .entry))))) ⌝ }
 {
-    match read_names(heap, words)? {
+    match read_list::<u32>(heap, words)? {
         Some(numbers) => Ok(Some(Command::Load(numbers))),
         None => Ok(None),
     }
@@ -159,26 +200,22 @@ fn read_load(heap: Global, words: &[&str]) -> Result<Option<Command>, AllocError
 
 /// The list to withhold.
 fn read_withhold(heap: Global, words: &[&str]) -> Result<Option<Command>, AllocError>
-    ensures { λ r. ⌜ made r (λ c. mapped said c ≡ mapped withhold (names-of (map (λ w. now w) (now (words .entry))))) ⌝ }
+    ensures { λ r. ⌜ made r (λ c. mapped said c ≡ mapped withhold (all-of name-of (map (λ w. now w) (now (words .entry))))) ⌝ }
 {
-    match read_names(heap, words)? {
+    match read_list::<u32>(heap, words)? {
         Some(numbers) => Ok(Some(Command::Withhold(numbers))),
         None => Ok(None),
     }
 }
 
-/// The numbers of a list of names.
-fn read_names(heap: Global, words: &[&str]) -> Result<Option<Vec<u32>>, AllocError>
-    ensures { λ r. ⌜ made r (λ v. mapped vec-items v ≡ names-of (map (λ w. now w) (now (words .entry)))) ⌝ }
+/// A memory predicate's argument types.
+fn read_memory(heap: Global, words: &[&str]) -> Result<Option<Command>, AllocError>
+    ensures { λ r. ⌜ made r (λ c. mapped said c ≡ mapped memory (all-of argument-of (map (λ w. now w) (now (words .entry))))) ⌝ }
 {
-    let mut numbers = Vec::new(heap);
-    for word in words {
-        match read_number(word, 4_294_967_295) {
-            Some(number) => numbers.push(number as u32)?,
-            None => return Ok(None),
-        }
+    match read_list::<Argument>(heap, words)? {
+        Some(arguments) => Ok(Some(Command::Memory(arguments))),
+        None => Ok(None),
     }
-    Ok(Some(numbers))
 }
 
 /// The row that the words after `row` give.

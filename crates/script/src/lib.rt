@@ -2,4 +2,6 @@
 //! they give.
 pub mod command;
 pub mod numbers;
+mod readable;
+mod types;
 pub mod words;

@@ -23,8 +23,7 @@ returns-in-len1 c =
     let one : length (c .args .rest .now) ≡ 1 = search needs in
     c .read-one .ensures ∙ sym (ap (plain-of (c .args .head .now)) (one-word (c .args .rest .now) _ one))
 
-pub returns-else-eq : need.returns-else-eq
-returns-else-eq c =
+pub returns-in-rest : need.returns-in-rest
+returns-in-rest c =
     let two : 2 ≤ length (c .args .rest .now) = search needs in
-    let not-row : sameBytes (c .args .head .now) (codes "row") ≡ false = unlike (c .args .head .now) (codes "row") (λ e. false≢true (c .if-eq .ensures tt .1 e)) in
-    sym (more-words (c .args .head .now) (c .args .rest .now) two ∙ ap (λ b. cond b (mapped said.row (row-of (told (c .args .rest .now)))) None) not-row)
+    c .read-more .ensures ∙ sym (more-words (c .args .head .now) (c .args .rest .now) two)
