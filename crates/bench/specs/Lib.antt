@@ -1,4 +1,6 @@
 pub mod Faults
 pub mod Answers
+pub mod Changes
+pub mod Roles
 pub mod States
 pub mod Playing

@@ -1,10 +1,10 @@
 -- Playing a script: what a line does to the state, and its answer.
 use mathlib.Core.Path.{_≡_}
-use mathlib.Core.Logic.{_⊎_}
 use mathlib.Core.Bool.{Bool, true, false}
 use mathlib.Core.List.{List, [], _∷_, _++_}
 use Prim.Native.Nat.{ℕ, max}
 use lib.ListN.{length}
+use Rattle.std.specs.Options.{mapped}
 use Rattle.std.specs.declared.option.Option.{Option}
 use Rattle.std.specs.declared.option.Option.the-variants.{Some, None}
 use Rattle.std.specs.declared.result.Result.{Result}
@@ -16,10 +16,10 @@ use Rattle.names.specs.Any.{View, counting, reading}
 use Rattle.names.specs.Rolls.{load-answer}
 use Rattle.names.specs.Withheld.{withhold-answer}
 use Rattle.names.specs.declared.faults.ListFault.{ListFault}
-use Rattle.names.specs.declared.faults.ListFault.the-variants.{NoMemory}
 use Rattle.script.specs.Lines.{Reads}
 use Rattle.script.specs.Said as said
-use Rattle.script.specs.Said.{Said, SaidLine}
+use Rattle.script.specs.Facts.{SaidFact}
+use Rattle.script.specs.Said.{Said, SaidPart, SaidLine}
 use Rattle.terms.specs.Adding.{Added}
 use Rattle.terms.specs.declared.faults.BookFault.{BookFault}
 use Rattle.terms.specs.declared.row.Row.{Row}
@@ -31,6 +31,8 @@ use Rattle.theory.specs.declared.data.Theory.{Theory}
 use Rattle.theory.specs.declared.faults.TableFault.{TableFault}
 use Rattle.types.specs.Theories.{theory-check}
 use Rattle.types.specs.declared.faults.TypeFault.{TypeFault}
+use Rattle.bench.specs.Changes.{Kept, Edited}
+use Rattle.bench.specs.Roles.{WrittenRole, blank-role, changed-last, with-part}
 use Rattle.bench.specs.States.{State, Written, nothing}
 use Rattle.bench.specs.declared.answer.Answer.{Answer}
 use Rattle.bench.specs.declared.answer.Answer.the-variants as answer
@@ -38,32 +40,38 @@ use Rattle.bench.specs.declared.faults.Fault.the-variants as fault
 
 -- ---- changes of the theory
 abbrev pub with-rows : Written → List Row → Written
-with-rows w rows = record { rows = rows; names = w .names; memory = w .memory }
+with-rows w rows = record { rows = rows; names = w .names; memory = w .memory; roles = w .roles }
 
 -- one name more
 abbrev pub with-name : Written → Declared → Written
-with-name w d = record { rows = w .rows; names = w .names ++ (d ∷ []); memory = w .memory }
+with-name w d = record { rows = w .rows; names = w .names ++ (d ∷ []); memory = w .memory; roles = w .roles }
 
 -- one memory predicate more
 abbrev pub with-memory : Written → List Argument → Written
-with-memory w arguments = record { rows = w .rows; names = w .names; memory = w .memory ++ (arguments ∷ []) }
+with-memory w arguments = record { rows = w .rows; names = w .names; memory = w .memory ++ (arguments ∷ []); roles = w .roles }
+
+abbrev pub with-roles : Written → List WrittenRole → Written
+with-roles w roles = record { rows = w .rows; names = w .names; memory = w .memory; roles = roles }
 
 -- ---- changes of the state
 abbrev pub with-theory : State → Written → State
-with-theory s w = record { theory = w; layout = s .layout; source = s .source; layered = s .layered; withheld = s .withheld }
+with-theory s w = record { theory = w; initial = s .initial; layout = s .layout; source = s .source; layered = s .layered; withheld = s .withheld }
+
+abbrev pub with-initial : State → List SaidFact → State
+with-initial s facts = record { theory = s .theory; initial = facts; layout = s .layout; source = s .source; layered = s .layered; withheld = s .withheld }
 
 abbrev pub with-layout : State → AnyLayout → State
-with-layout s l = record { theory = s .theory; layout = l; source = s .source; layered = s .layered; withheld = s .withheld }
+with-layout s l = record { theory = s .theory; initial = s .initial; layout = l; source = s .source; layered = s .layered; withheld = s .withheld }
 
 -- A source that was just chosen has no layer over it.
 abbrev pub with-source : State → View → State
-with-source s v = record { theory = s .theory; layout = s .layout; source = v; layered = false; withheld = [] }
+with-source s v = record { theory = s .theory; initial = s .initial; layout = s .layout; source = v; layered = false; withheld = [] }
 
 abbrev pub with-list : State → List ℕ → State
-with-list s xs = record { theory = s .theory; layout = s .layout; source = reading xs; layered = s .layered; withheld = s .withheld }
+with-list s xs = record { theory = s .theory; initial = s .initial; layout = s .layout; source = reading xs; layered = s .layered; withheld = s .withheld }
 
 abbrev pub with-layer : State → List ℕ → State
-with-layer s xs = record { theory = s .theory; layout = s .layout; source = s .source; layered = true; withheld = xs }
+with-layer s xs = record { theory = s .theory; initial = s .initial; layout = s .layout; source = s .source; layered = true; withheld = xs }
 
 -- ---- rows
 abbrev pub by-number : Result ℕ BookFault → Answer
@@ -75,11 +83,7 @@ abbrev pub RowAdded : ℕ → State → Row → State → Answer → Type 0
 RowAdded capacity s r t a =
     (result : Result ℕ BookFault) × Added (s .theory .rows) capacity r (t .theory .rows) result × (a ≡ by-number result) × (t ≡ with-theory s (with-rows (s .theory) (t .theory .rows)))
 
--- ---- the other tables
--- The change is made, unless there is no memory for it.
-abbrev pub Kept : State → State → State → Answer → Type 0
-Kept s after t a = ((t ≡ after) × (a ≡ answer.Noted)) ⊎ ((t ≡ s) × (a ≡ answer.Refused (fault.List NoMemory)))
-
+-- ---- checks
 -- The tables are checked before the types.
 abbrev pub by-types : Result (Unit {0}) TypeFault → Answer
 by-types (Ok u) = answer.Passed
@@ -116,11 +120,16 @@ abbrev pub Withholds : Bool → State → List ℕ → State → Answer → Type
 Withholds false s xs t a = (t ≡ s) × (a ≡ answer.NotUnderstood)
 Withholds true s xs t a = Taken (withhold-answer xs) s (with-layer s xs) (answer.Withheld (length xs)) t a
 
+-- ---- roles
+-- A line that adds to the last role needs one.
+abbrev pub PartAdded : State → SaidPart → State → Answer → Type 0
+PartAdded s p t a = Edited (mapped (λ roles. with-theory s (with-roles (s .theory) roles)) (changed-last (with-part p) (s .theory .roles))) s t a
+
 -- ---- lines
 -- What a command does, from one state to another, and its answer, over the theory that the state shows.
 abbrev pub Carried : Theory → State → Said → State → Answer → Type 0
 Carried T s (said.row r) t a = RowAdded (capacity-of (T .book)) s r t a
-Carried T s said.new t a = (t ≡ with-theory s nothing) × (a ≡ answer.Noted)
+Carried T s said.new t a = (t ≡ with-initial (with-theory s nothing) []) × (a ≡ answer.Noted)
 Carried T s (said.layout l) t a = (t ≡ with-layout s l) × (a ≡ answer.Noted)
 Carried T s (said.counter n) t a = Chosen s (counting (max n 1)) t a
 Carried T s said.roll t a = Chosen s (reading []) t a
@@ -129,6 +138,9 @@ Carried T s (said.load xs) t a = Loaded (s .source) s xs t a
 Carried T s (said.withhold xs) t a = Withholds (s .layered) s xs t a
 Carried T s (said.name d) t a = Kept s (with-theory s (with-name (s .theory) d)) t a
 Carried T s (said.memory arguments) t a = Kept s (with-theory s (with-memory (s .theory) arguments)) t a
+Carried T s (said.role anchor) t a = Kept s (with-theory s (with-roles (s .theory) (s .theory .roles ++ blank-role anchor ∷ []))) t a
+Carried T s (said.part p) t a = PartAdded s p t a
+Carried T s (said.initial f) t a = Kept s (with-initial s (s .initial ++ f ∷ [])) t a
 Carried T s said.check t a = (t ≡ s) × (a ≡ check-answer (meaning-of (s .layout)) T)
 
 -- A line that is only echoed has no answer; it changes nothing, as one that can't be read.

@@ -11,8 +11,9 @@ use Rattle.terms.specs.Held.{rows-of}
 use Rattle.terms.specs.declared.row.Row.{Row}
 use Rattle.theory.specs.declared.data.Argument.{Argument}
 use Rattle.theory.specs.declared.data.Declared.{Declared}
-use Rattle.theory.specs.declared.data.Predicate.{Predicate}
 use Rattle.theory.specs.declared.data.Theory.{Theory}
+use Rattle.script.specs.Facts.{SaidFact}
+use Rattle.bench.specs.Roles.{WrittenRole, written-role, arguments-of, facts-of}
 use Rattle.bench.specs.declared.desk.Desk.{Desk}
 
 -- A theory as a script wrote it down, apart from the memory that holds it.
@@ -23,18 +24,18 @@ pub record Written : Type 0 where
   pub names : List Declared
   -- its memory predicates, by the types of their arguments
   pub memory : List (List Argument)
-
-abbrev pub arguments-of : List Predicate → List (List Argument)
-arguments-of Ps = map (λ P. vec-items (P .arguments)) Ps
+  pub roles : List WrittenRole
 
 abbrev pub written-of : Theory → Written
-written-of T = record { rows = rows-of (T .book); names = vec-items (T .names); memory = arguments-of (vec-items (T .memory)) }
+written-of T = record { rows = rows-of (T .book); names = vec-items (T .names); memory = arguments-of (vec-items (T .memory)); roles = map written-role (vec-items (T .roles)) }
 
 abbrev pub nothing : Written
-nothing = record { rows = []; names = []; memory = [] }
+nothing = record { rows = []; names = []; memory = []; roles = [] }
 
 pub record State : Type 0 where
   pub theory : Written
+  -- the initial facts for the next session
+  pub initial : List SaidFact
   -- the layout, and the source, for the next session
   pub layout : AnyLayout
   pub source : View
@@ -45,12 +46,13 @@ pub record State : Type 0 where
 abbrev pub state-of : Desk → State
 state-of d = record {
   theory = written-of (d .theory);
+  initial = facts-of (vec-items (d .initial));
   layout = d .layout;
   source = view-of (below-of (d .source));
   layered = d .layered;
   withheld = withheld-of (d .source);
 }
 
--- At first: an empty theory, the report layout, an empty roll without a layer.
+-- At first: an empty theory, no initial facts, the report layout, an empty roll without a layer.
 abbrev pub empty : State
-empty = record { theory = nothing; layout = any.Report record {}; source = reading []; layered = false; withheld = [] }
+empty = record { theory = nothing; initial = []; layout = any.Report record {}; source = reading []; layered = false; withheld = [] }

@@ -1,16 +1,22 @@
 ghost use mathlib.Core.Path.{_≡_};
-ghost use mathlib.Core.List.{[]};
+ghost use mathlib.Core.List.{[], _∷_, _++_};
 ghost use Rattle.std.specs.Of.Vec.{vec-items};
 ghost use Rattle.std.specs.Results.{Cases};
 ghost use Rattle.std.specs.Vec.{made};
 ghost use Rattle.layouts.specs.Any.{meaning-of};
 ghost use Rattle.names.specs.Any.{view-of};
-ghost use Rattle.script.specs.Said.{said};
+ghost use Rattle.script.specs.Facts.{said-fact};
+ghost use Rattle.script.specs.Said.{said, said-part};
 ghost use Rattle.terms.specs.Held.{capacity-of};
+ghost use Rattle.bench.specs.Changes.{Kept};
+ghost use Rattle.bench.specs.Roles.{blank-role};
 ghost use Rattle.bench.specs.States.{written-of, nothing, state-of, empty};
-ghost use Rattle.bench.specs.Playing.{with-name, with-memory, with-theory, RowAdded, Kept, check-answer, Chosen, Layers, Loaded, Withholds, Carried, Answered};
+ghost use Rattle.bench.specs.Playing.{with-name, with-memory, with-roles, with-theory, with-initial, RowAdded, PartAdded, check-answer, Chosen, Layers, Loaded, Withholds, Carried, Answered};
 use crate::answer::Answer;
 use crate::faults::Fault;
+use crate::roles::add_to_role;
+use crate::roles::begun_role;
+use crate::roles::put;
 use layouts::any::AnyLayout;
 use layouts::any::AnyLayoutLayout;
 use layouts::report::Report;
@@ -22,6 +28,7 @@ use names::roll::Roll;
 use names::withholding::Withholding;
 use script::command::Command;
 use script::command::Line;
+use script::command::Part;
 use script::command::read_line;
 use std::alloc::AllocError;
 use std::alloc::Global;
@@ -54,6 +61,7 @@ fn blank(heap: Global) -> Theory
 pub struct Desk {
     heap: Global,
     theory: Theory,
+    initial: Vec<Fact>,
     layout: AnyLayout,
     source: Withholding<AnySource>,
     layered: bool,
@@ -71,6 +79,7 @@ impl Desk {
             Ok(source) => Ok(Desk {
                 heap,
                 theory: blank(heap),
+                initial: Vec::new(heap),
                 layout: AnyLayout::Report(Report),
                 source,
                 layered: false,
@@ -98,6 +107,7 @@ impl Desk {
             Command::Row(row) => self.add_row(row),
             Command::New => {
                 self.theory = blank(self.heap);
+                self.initial = Vec::new(self.heap);
                 Answer::Noted
             }
             Command::Layout(layout) => {
@@ -114,6 +124,9 @@ impl Desk {
             Command::Withhold(numbers) => self.withhold(numbers.as_slice()),
             Command::Name(declared) => self.declare(declared),
             Command::Memory(arguments) => self.add_memory(arguments),
+            Command::Role(anchor) => self.add_role(anchor),
+            Command::Part(part) => self.add_part(part),
+            Command::Fact(fact) => self.add_fact(fact),
             Command::Check => self.check(),
         }
     }
@@ -132,20 +145,41 @@ impl Desk {
     fn declare(&mut self, declared: Declared) -> Answer
         ensures { λ r. ⌜ Kept (state-of (now (self .entry))) (with-theory (state-of (now (self .entry))) (with-name (state-of (now (self .entry)) .theory) declared)) (state-of (now (self .exit))) r ⌝ }
     {
-        match self.theory.names.push(declared) {
-            Ok(()) => Answer::Noted,
-            Err(_) => Answer::Refused(Fault::List(ListFault::NoMemory)),
-        }
+        put(&mut self.theory.names, declared)
     }
 
     /// Adds a memory predicate.
     fn add_memory(&mut self, arguments: Vec<Argument>) -> Answer
         ensures { λ r. ⌜ Kept (state-of (now (self .entry))) (with-theory (state-of (now (self .entry))) (with-memory (state-of (now (self .entry)) .theory) (vec-items arguments))) (state-of (now (self .exit))) r ⌝ }
     {
-        if self.theory.memory.push(Predicate { arguments }).is_err() {
-            return Answer::Refused(Fault::List(ListFault::NoMemory));
-        }
-        Answer::Noted
+        put(&mut self.theory.memory, Predicate { arguments })
+    }
+
+    /// Begins a role.
+    fn add_role(&mut self, anchor: Option<u32>) -> Answer
+        ensures { λ r. ⌜ Kept (state-of (now (self .entry))) (with-theory (state-of (now (self .entry))) (with-roles (state-of (now (self .entry)) .theory) (state-of (now (self .entry)) .theory .roles ++ blank-role anchor ∷ []))) (state-of (now (self .exit))) r ⌝ }
+    {
+        let begun = begun_role(self.heap, anchor);
+        put(&mut self.theory.roles, begun)
+    }
+
+    /// Adds to the last role.
+    fn add_part(&mut self, part: Part) -> Answer
+        ensures { λ r. ⌜ PartAdded (state-of (now (self .entry))) (said-part part) (state-of (now (self .exit))) r ⌝ }
+    {
+        let Some(mut last) = self.theory.roles.pop() else {
+            return Answer::NotUnderstood;
+        };
+        let answer = add_to_role(self.heap, &mut last, part);
+        self.theory.roles.push_reserved(last);
+        answer
+    }
+
+    /// Adds an initial fact.
+    fn add_fact(&mut self, fact: Fact) -> Answer
+        ensures { λ r. ⌜ Kept (state-of (now (self .entry))) (with-initial (state-of (now (self .entry))) (state-of (now (self .entry)) .initial ++ said-fact fact ∷ [])) (state-of (now (self .exit))) r ⌝ }
+    {
+        put(&mut self.initial, fact)
     }
 
     /// Checks the tables and the types of the theory.

@@ -17,6 +17,7 @@ use std::io::Write;
 mod answer;
 mod desk;
 mod faults;
+mod roles;
 
 /// Plays one script.
 fn play<R: Read + Drop, W: Write + Drop>(

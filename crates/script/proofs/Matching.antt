@@ -17,7 +17,10 @@ use Rattle.std.proofs.shelf.Tests.{cases-bool, eqb-true, eqb-false}
 use Rattle.std.specs.declared.option.Option.{Option}
 use Rattle.std.specs.declared.option.Option.the-variants.{Some, None}
 use Rattle.script.specs.Said as said
-use Rattle.script.specs.Lists.{Word}
+use Rattle.theory.specs.declared.data.Symbol.{Symbol}
+use Rattle.script.specs.Types.{both}
+use Rattle.script.specs.Facts.{SaidFact, symbol-of, fact-of}
+use Rattle.script.specs.Lists.{Word, row-number-of, all-of}
 use Rattle.script.specs.Commands.{compound-by, of-both, row-of, declared-of, more-of, plain-of, command-of}
 
 -- two words that differ
@@ -83,3 +86,17 @@ no-name [] p = refl
 no-name (a ∷ []) p = refl
 no-name (a ∷ b ∷ []) p = absurd (p refl)
 no-name (a ∷ b ∷ c ∷ ws) p = refl
+
+-- a fact by its first word and the rest
+pub no-fact : (ws : List (RefT Word)) → length ws < 1 → None ≡ fact-of (told ws)
+no-fact [] h = refl
+no-fact (a ∷ ws) h = absurd (omega arith)
+
+abbrev pub fact : Symbol → List ℕ → SaidFact
+fact s rows = record { symbol = s; rows = rows }
+
+pub fact-found : (ws : List (RefT Word)) (d : RefT Word) → 1 ≤ length ws → (s : Option Symbol) (rows : Option (List ℕ)) → s ≡ symbol-of (getD ws 0 d .now) → rows ≡ all-of row-number-of (told (take (length ws - 1) (drop 1 ws))) → both fact s rows ≡ fact-of (told ws)
+fact-found ws d h s rows e f = ap (λ x. both fact x rows) e ∙ ap (both fact (symbol-of (getD ws 0 d .now))) f ∙ sym (ap fact-of (head-rest ws d h))
+
+pub no-symbol : (ws : List (RefT Word)) (d : RefT Word) → 1 ≤ length ws → None ≡ symbol-of (getD ws 0 d .now) → None ≡ fact-of (told ws)
+no-symbol ws d h e = ap (λ x. both fact x (all-of row-number-of (told (take (length ws - 1) (drop 1 ws))))) e ∙ sym (ap fact-of (head-rest ws d h))

@@ -14,6 +14,7 @@ use Rattle.terms.specs.declared.row.Row.{Row}
 use Rattle.terms.specs.declared.row.Row.the-variants as row
 use Rattle.theory.specs.declared.data.Declared.{Declared}
 use Rattle.script.specs.Types.{both, type-of, argument-of}
+use Rattle.script.specs.Facts.{fact-of}
 use Rattle.script.specs.Lists.{Word, name-of, all-of}
 use Rattle.script.specs.Numbers.{number-up-to}
 use Rattle.script.specs.Said as said
@@ -61,13 +62,24 @@ alone-of head =
     cond (sameBytes head (codes "new")) (Some said.new)
     (cond (sameBytes head (codes "roll")) (Some said.roll)
     (cond (sameBytes head (codes "withholding")) (Some said.withholding)
-    (cond (sameBytes head (codes "check")) (Some said.check) None)))
+    (cond (sameBytes head (codes "check")) (Some said.check)
+    (cond (sameBytes head (codes "rule")) (Some (said.part said.rule)) None))))
+
+-- A role is anchored to a name or, with `*`, to nothing.
+abbrev pub anchored-of : Word → Option (Option ℕ)
+anchored-of w = mapped Some (number-up-to 4294967295 w)
+
+abbrev pub anchor-of : Word → Option (Option ℕ)
+anchor-of w = cond (sameBytes w (codes "*")) (Some None) (anchored-of w)
 
 -- A command of two words.
 abbrev pub one-of : Word → Word → Option Said
 one-of head w =
     cond (sameBytes head (codes "layout")) (mapped said.layout (layout-of w))
-    (cond (sameBytes head (codes "counter")) (mapped said.counter (number-up-to 4294967295 w)) None)
+    (cond (sameBytes head (codes "counter")) (mapped said.counter (number-up-to 4294967295 w))
+    (cond (sameBytes head (codes "role")) (mapped said.role (anchor-of w))
+    (cond (sameBytes head (codes "forall")) (mapped (λ t. said.part (said.of-rule (said.universal t))) (type-of w))
+    (cond (sameBytes head (codes "make")) (mapped (λ t. said.part (said.of-rule (said.made t))) (type-of w)) None))))
 
 -- A name's number, of 32 bits, and its type.
 abbrev pub name-with : Word → Word → Option Declared
@@ -91,12 +103,20 @@ plain-of head [] = alone-of head
 plain-of head (w ∷ []) = one-of head w
 plain-of head (w ∷ v ∷ ws) = more-of head (w ∷ v ∷ ws)
 
+-- A command that states a fact, or one that holds no list.
+abbrev pub stated-of : Word → List Word → Option Said
+stated-of head rest =
+    cond (sameBytes head (codes "left")) (mapped said.left (fact-of rest))
+    (cond (sameBytes head (codes "right")) (mapped said.right (fact-of rest))
+    (cond (sameBytes head (codes "fact")) (mapped said.initial (fact-of rest)) (plain-of head rest)))
+
 -- The command that begins with the word.
 abbrev pub headed-of : Word → List Word → Option Said
 headed-of head rest =
     cond (sameBytes head (codes "load")) (mapped said.load (all-of name-of rest))
     (cond (sameBytes head (codes "withhold")) (mapped said.withhold (all-of name-of rest))
-    (cond (sameBytes head (codes "memory")) (mapped said.memory (all-of argument-of rest)) (plain-of head rest)))
+    (cond (sameBytes head (codes "memory")) (mapped said.memory (all-of argument-of rest))
+    (cond (sameBytes head (codes "local")) (mapped said.local (all-of argument-of rest)) (stated-of head rest))))
 
 abbrev pub command-of : List Word → Option Said
 command-of [] = None

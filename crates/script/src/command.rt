@@ -2,11 +2,13 @@ ghost use mathlib.Core.Path.{_≡_};
 ghost use mathlib.Core.List.{map};
 ghost use Rattle.std.specs.Options.{mapped};
 ghost use Rattle.std.specs.Vec.{made};
-ghost use Rattle.script.specs.Said.{load, withhold, memory, said, said-line};
-ghost use Rattle.script.specs.Commands.{item-of, compound-of, row-of, layout-of, alone-of, one-of, name-with, declared-of, more-of, plain-of, headed-of, command-of};
+ghost use Rattle.script.specs.Said.{load, withhold, memory, initial, local, left, right, said, said-line};
+ghost use Rattle.script.specs.Commands.{item-of, compound-of, row-of, layout-of, alone-of, anchored-of, anchor-of, one-of, name-with, declared-of, more-of, plain-of, stated-of, headed-of, command-of};
 ghost use Rattle.script.specs.Lists.{name-of, all-of};
 ghost use Rattle.script.specs.Types.{argument-of};
+ghost use Rattle.script.specs.Facts.{fact-of};
 ghost use Rattle.script.specs.Lines.{is-silent, Reads};
+use crate::facts::read_fact;
 use crate::numbers::read_number;
 use crate::readable::NameReadable;
 use crate::readable::read_list;
@@ -23,6 +25,8 @@ use terms::row::Item;
 use terms::row::Row;
 use theory::data::Argument;
 use theory::data::Declared;
+use theory::data::Fact;
+use theory::data::Ty;
 
 /// A command of a script.
 #[derive(Drop)]
@@ -47,8 +51,38 @@ pub enum Command {
     Name(Declared),
     /// `memory ..`: a memory predicate with its argument types.
     Memory(Vec<Argument>),
+    /// `role ..`: begins a role, generic or anchored to a name.
+    Role(Option<u32>),
+    /// A line that adds to the last role.
+    Part(Part),
+    /// `fact ..`: the next initial fact.
+    Fact(Fact),
     /// `check`: checks the theory.
     Check,
+}
+
+/// What a line adds to the last role.
+#[derive(Drop)]
+pub enum Part {
+    /// `local ..`: a predicate of the role.
+    Predicate(Vec<Argument>),
+    /// `rule`: begins a rule.
+    Rule,
+    /// A line that adds to the last rule of the role.
+    OfRule(RulePart),
+}
+
+/// What a line adds to the last rule.
+#[derive(Drop)]
+pub enum RulePart {
+    /// `forall ..`: the next universal variable.
+    Universal(Ty),
+    /// `make ..`: the next made variable.
+    Made(Ty),
+    /// `left ..`: the next left fact.
+    Left(Fact),
+    /// `right ..`: the next right fact.
+    Right(Fact),
 }
 
 /// What a line of a script is.
@@ -108,6 +142,19 @@ fn read_headed(heap: Global, head: &str, rest: &[&str]) -> Result<Option<Command
         "load" => read_load(heap, rest),
         "withhold" => read_withhold(heap, rest),
         "memory" => read_memory(heap, rest),
+        "local" => read_local(heap, rest),
+        _ => read_stated(heap, head, rest),
+    }
+}
+
+/// A command that states a fact, or one that holds no list.
+fn read_stated(heap: Global, head: &str, rest: &[&str]) -> Result<Option<Command>, AllocError>
+    ensures { λ r. ⌜ made r (λ c. mapped said c ≡ stated-of (now (head .entry)) (map (λ w. now w) (now (rest .entry)))) ⌝ }
+{
+    match head {
+        "left" => read_left(heap, rest),
+        "right" => read_right(heap, rest),
+        "fact" => read_initial(heap, rest),
         _ => Ok(read_plain(head, rest)),
     }
 }
@@ -132,6 +179,7 @@ fn read_alone(head: &str) -> Option<Command>
         "roll" => Some(Command::Roll),
         "withholding" => Some(Command::Withholding),
         "check" => Some(Command::Check),
+        "rule" => Some(Command::Part(Part::Rule)),
         _ => None,
     }
 }
@@ -143,8 +191,28 @@ fn read_one(head: &str, word: &str) -> Option<Command>
     match head {
         "layout" => Some(Command::Layout(read_layout(word)?)),
         "counter" => Some(Command::Counter(read_number(word, 4_294_967_295)? as u32)),
+        "role" => Some(Command::Role(read_anchor(word)?)),
+        "forall" => Some(Command::Part(Part::OfRule(RulePart::Universal(read_type(word)?)))),
+        "make" => Some(Command::Part(Part::OfRule(RulePart::Made(read_type(word)?)))),
         _ => None,
     }
+}
+
+/// What a role is anchored to: a name, or with `*` nothing.
+fn read_anchor(word: &str) -> Option<Option<u32>>
+    ensures { λ r. ⌜ r ≡ anchor-of (now (word .entry)) ⌝ }
+{
+    match word {
+        "*" => Some(None),
+        _ => read_anchored(word),
+    }
+}
+
+/// The name that a role is anchored to.
+fn read_anchored(word: &str) -> Option<Option<u32>>
+    ensures { λ r. ⌜ r ≡ anchored-of (now (word .entry)) ⌝ }
+{
+    Some(Some(read_number(word, 4_294_967_295)? as u32))
 }
 
 /// A command of three words or more.
@@ -214,6 +282,46 @@ fn read_memory(heap: Global, words: &[&str]) -> Result<Option<Command>, AllocErr
 {
     match read_list::<Argument>(heap, words)? {
         Some(arguments) => Ok(Some(Command::Memory(arguments))),
+        None => Ok(None),
+    }
+}
+
+/// The argument types of a predicate of the role.
+fn read_local(heap: Global, words: &[&str]) -> Result<Option<Command>, AllocError>
+    ensures { λ r. ⌜ made r (λ c. mapped said c ≡ mapped local (all-of argument-of (map (λ w. now w) (now (words .entry))))) ⌝ }
+{
+    match read_list::<Argument>(heap, words)? {
+        Some(arguments) => Ok(Some(Command::Part(Part::Predicate(arguments)))),
+        None => Ok(None),
+    }
+}
+
+/// A left fact.
+fn read_left(heap: Global, words: &[&str]) -> Result<Option<Command>, AllocError>
+    ensures { λ r. ⌜ made r (λ c. mapped said c ≡ mapped left (fact-of (map (λ w. now w) (now (words .entry))))) ⌝ }
+{
+    match read_fact(heap, words)? {
+        Some(fact) => Ok(Some(Command::Part(Part::OfRule(RulePart::Left(fact))))),
+        None => Ok(None),
+    }
+}
+
+/// A right fact.
+fn read_right(heap: Global, words: &[&str]) -> Result<Option<Command>, AllocError>
+    ensures { λ r. ⌜ made r (λ c. mapped said c ≡ mapped right (fact-of (map (λ w. now w) (now (words .entry))))) ⌝ }
+{
+    match read_fact(heap, words)? {
+        Some(fact) => Ok(Some(Command::Part(Part::OfRule(RulePart::Right(fact))))),
+        None => Ok(None),
+    }
+}
+
+/// An initial fact.
+fn read_initial(heap: Global, words: &[&str]) -> Result<Option<Command>, AllocError>
+    ensures { λ r. ⌜ made r (λ c. mapped said c ≡ mapped initial (fact-of (map (λ w. now w) (now (words .entry))))) ⌝ }
+{
+    match read_fact(heap, words)? {
+        Some(fact) => Ok(Some(Command::Fact(fact))),
         None => Ok(None),
     }
 }
