@@ -36,6 +36,7 @@ use Rattle.bench.specs.Roles.{WrittenRole, blank-role, changed-last, with-part
 use Rattle.bench.specs.States.{State, Written, nothing}
 use Rattle.bench.specs.declared.answer.Answer.{Answer}
 use Rattle.bench.specs.declared.answer.Answer.the-variants as answer
+use Rattle.bench.specs.declared.faults.Fault.{Fault}
 use Rattle.bench.specs.declared.faults.Fault.the-variants as fault
 
 -- ---- changes of the theory
@@ -84,17 +85,21 @@ RowAdded capacity s r t a =
     (result : Result ℕ BookFault) × Added (s .theory .rows) capacity r (t .theory .rows) result × (a ≡ by-number result) × (t ≡ with-theory s (with-rows (s .theory) (t .theory .rows)))
 
 -- ---- checks
--- The tables are checked before the types.
-abbrev pub by-types : Result (Unit {0}) TypeFault → Answer
-by-types (Ok u) = answer.Passed
-by-types (Err f) = answer.Refused (fault.Typing f)
+-- The tables are checked before the types; the first fault goes up whole.
+abbrev pub by-types : Result (Unit {0}) TypeFault → Result (Unit {0}) Fault
+by-types (Ok u) = Ok u
+by-types (Err f) = Err (fault.Typing f)
 
-abbrev pub by-tables : Result (Unit {0}) TableFault → Answer → Answer
-by-tables (Ok u) a = a
-by-tables (Err f) a = answer.Refused (fault.Table f)
+abbrev pub by-tables : Result (Unit {0}) TableFault → Result (Unit {0}) Fault → Result (Unit {0}) Fault
+by-tables (Ok u) next = next
+by-tables (Err f) next = Err (fault.Table f)
 
-abbrev pub check-answer : Meaning → Theory → Answer
-check-answer lay T = by-tables (tables-check T []) (by-types (theory-check lay T))
+abbrev pub theory-faults : Meaning → Theory → Result (Unit {0}) Fault
+theory-faults lay T = by-tables (tables-check T []) (by-types (theory-check lay T))
+
+abbrev pub check-answer : Result (Unit {0}) Fault → Answer
+check-answer (Ok u) = answer.Passed
+check-answer (Err f) = answer.Refused f
 
 -- ---- sources
 abbrev pub Chosen : State → View → State → Answer → Type 0
@@ -141,7 +146,7 @@ Carried T s (said.memory arguments) t a = Kept s (with-theory s (with-memory (s 
 Carried T s (said.role anchor) t a = Kept s (with-theory s (with-roles (s .theory) (s .theory .roles ++ blank-role anchor ∷ []))) t a
 Carried T s (said.part p) t a = PartAdded s p t a
 Carried T s (said.initial f) t a = Kept s (with-initial s (s .initial ++ f ∷ [])) t a
-Carried T s said.check t a = (t ≡ s) × (a ≡ check-answer (meaning-of (s .layout)) T)
+Carried T s said.check t a = (t ≡ s) × (a ≡ check-answer (theory-faults (meaning-of (s .layout)) T))
 
 -- A line that is only echoed has no answer; it changes nothing, as one that can't be read.
 abbrev pub LineAnswered : Theory → State → SaidLine → State → Option Answer → Type 0

@@ -11,9 +11,11 @@ ghost use Rattle.terms.specs.Held.{capacity-of};
 ghost use Rattle.bench.specs.Changes.{Kept};
 ghost use Rattle.bench.specs.Roles.{blank-role};
 ghost use Rattle.bench.specs.States.{written-of, nothing, state-of, empty};
-ghost use Rattle.bench.specs.Playing.{with-name, with-memory, with-roles, with-theory, with-initial, RowAdded, PartAdded, check-answer, Chosen, Layers, Loaded, Withholds, Carried, Answered};
+ghost use Rattle.bench.specs.Playing.{with-name, with-memory, with-roles, with-theory, with-initial, RowAdded, PartAdded, theory-faults, Chosen, Layers, Loaded, Withholds, Carried, Answered};
 use crate::answer::Answer;
 use crate::faults::Fault;
+use crate::faults::FaultFromTableFault;
+use crate::faults::FaultFromTypeFault;
 use crate::roles::add_to_role;
 use crate::roles::begun_role;
 use crate::roles::put;
@@ -127,7 +129,10 @@ impl Desk {
             Command::Role(anchor) => self.add_role(anchor),
             Command::Part(part) => self.add_part(part),
             Command::Fact(fact) => self.add_fact(fact),
-            Command::Check => self.check(),
+            Command::Check => match self.check() {
+                Ok(()) => Answer::Passed,
+                Err(fault) => Answer::Refused(fault),
+            },
         }
     }
 
@@ -183,17 +188,13 @@ impl Desk {
     }
 
     /// Checks the tables and the types of the theory.
-    fn check(&self) -> Answer
-        ensures { λ r. ⌜ r ≡ check-answer (meaning-of (now (self .entry) .layout)) (now (self .entry) .theory) ⌝ }
+    fn check(&self) -> Result<(), Fault>
+        ensures { λ r. ⌜ r ≡ theory-faults (meaning-of (now (self .entry) .layout)) (now (self .entry) .theory) ⌝ }
     {
         let initial: Vec<Fact> = Vec::new(self.heap);
-        if let Err(fault) = check_tables(&self.theory, initial.as_slice()) {
-            return Answer::Refused(Fault::Table(fault));
-        }
-        match check_types(&self.layout, &self.theory) {
-            Ok(()) => Answer::Passed,
-            Err(fault) => Answer::Refused(Fault::Typing(fault)),
-        }
+        check_tables(&self.theory, initial.as_slice())?;
+        check_types(&self.layout, &self.theory)?;
+        Ok(())
     }
 
     /// Chooses the source for the next session.

@@ -1,5 +1,6 @@
 ghost use mathlib.Core.Path.{_≡_};
 ghost use Rattle.bench.specs.Faults.{refusal-of, reason-of};
+ghost use Rattle.bench.specs.declared.faults.Fault.the-variants.{Table, Typing};
 use names::faults::ListFault;
 use refusals::Refusal;
 use terms::faults::BookFault;
@@ -38,5 +39,21 @@ impl Fault {
             Fault::Table(fault) => fault.reason(),
             Fault::Typing(fault) => fault.reason(),
         }
+    }
+}
+
+pub impl From<TableFault> for Fault as FaultFromTableFault {
+    ghost converts = { λ f r. r ≡ Table f };
+
+    fn from(fault: TableFault) -> Fault {
+        Fault::Table(fault)
+    }
+}
+
+pub impl From<TypeFault> for Fault as FaultFromTypeFault {
+    ghost converts = { λ f r. r ≡ Typing f };
+
+    fn from(fault: TypeFault) -> Fault {
+        Fault::Typing(fault)
     }
 }
