@@ -37,7 +37,7 @@ pub(crate) fn check_made<L: Layout>(
     base: usize,
 ) -> Result<(), AccessFault>
     requires { base + length made.now < 2 ^ 64 }
-    ensures { result ≡ all_made_check (meaning layout.now) (setting_of setting.entry) base made.now }
+    ensures { result ≡ all_made_check (L.meaning layout.now) (setting_of setting.entry) base made.now }
 {
     for (i, of) in made.iter().enumerate() {
         if !layout.may_be_made(of.family) {

@@ -16,7 +16,7 @@ use types::theories::check_types;
 /// The rules of a theory whose tables are whole.
 fn check_rules_of<L: Layout>(layout: &L, theory: &Theory) -> Result<(), AccessFault>
     requires { tables_check theory.now [] ≡ pass }
-    ensures { First (theory_lines (meaning layout.now) theory.now) result }
+    ensures { First (theory_lines (L.meaning layout.now) theory.now) result }
 {
     check_roles(
         layout,
@@ -29,8 +29,8 @@ fn check_rules_of<L: Layout>(layout: &L, theory: &Theory) -> Result<(), AccessFa
 /// The access check of a theory. It begins with the table check, since it goes by the places and the
 /// limits of the tables; the types need not be right.
 pub fn check_access<L: Layout>(layout: &L, theory: &Theory) -> Result<(), CheckFault>
-    ensures answer { AccessAnswered (meaning layout.now) theory.now result }
-    ensures judged { Passes result (Accessible (meaning layout.now) theory.now) }
+    ensures answer { AccessAnswered (L.meaning layout.now) theory.now result }
+    ensures judged { Passes result (Accessible (L.meaning layout.now) theory.now) }
 {
     check_tables(theory, Default::default())?;
     check_rules_of(layout, theory)?;
@@ -39,8 +39,8 @@ pub fn check_access<L: Layout>(layout: &L, theory: &Theory) -> Result<(), CheckF
 
 /// All checks of a theory: its tables, its types, its data access.
 pub fn check<L: Layout>(layout: &L, theory: &Theory) -> Result<(), CheckFault>
-    ensures answer { Answered (meaning layout.now) theory.now result }
-    ensures judged { Passes result (Accepted (meaning layout.now) theory.now) }
+    ensures answer { Answered (L.meaning layout.now) theory.now result }
+    ensures judged { Passes result (Accepted (L.meaning layout.now) theory.now) }
 {
     check_tables(theory, Default::default())?;
     check_types(layout, theory)?;

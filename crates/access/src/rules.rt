@@ -31,7 +31,7 @@ fn check_reading<L: Layout>(
 ) -> Result<(), AccessFault>
     requires variables { universal + length made.now < 2 ^ 64 }
     requires facts { base + length right.now < 2 ^ 64 }
-    ensures { result ≡ reading_check (meaning layout.now) (setting_of setting.entry) held.now closed.now universal made.now base right.now }
+    ensures { result ≡ reading_check (L.meaning layout.now) (setting_of setting.entry) held.now closed.now universal made.now base right.now }
 {
     check_closed(setting, closed)?;
     check_made(layout, setting, made, universal)?;
@@ -57,7 +57,7 @@ fn check_parts<L: Layout>(
 ) -> Result<(), AccessFault>
     requires names { length setting.names.now ≤ 128 }
     requires tabled { PartsTabled (length (rows_of setting.book.now)) (record { universal = universal.now; left = left.now; made = made.now; right = right.now }) }
-    ensures { First (parts_lines (meaning layout.now) (setting_of setting.entry) (record { universal = universal.entry.now; left = left.now; made = made.now; right = right.now })) result }
+    ensures { First (parts_lines (L.meaning layout.now) (setting_of setting.entry) (record { universal = universal.entry.now; left = left.now; made = made.now; right = right.now })) result }
 {
     check_owners(setting, left, 0)?;
     check_owners(setting, right, left.len())?;
@@ -81,7 +81,7 @@ fn check_parts<L: Layout>(
 fn check_rule<L: Layout>(layout: &L, setting: Setting, rule: &Rule) -> Result<(), AccessFault>
     requires names { length setting.names.now ≤ 128 }
     requires tabled { PartsTabled (length (rows_of setting.book.now)) (parts_of rule.now) }
-    ensures { First (rule_lines (meaning layout.now) (setting_of setting.entry) rule.now) result }
+    ensures { First (rule_lines (L.meaning layout.now) (setting_of setting.entry) rule.now) result }
 {
     check_parts(
         layout,
@@ -97,7 +97,7 @@ fn check_rule<L: Layout>(layout: &L, setting: Setting, rule: &Rule) -> Result<()
 fn check_rules<L: Layout>(layout: &L, setting: Setting, rules: &[Rule]) -> Result<(), AccessFault>
     requires names { length setting.names.now ≤ 128 }
     requires tabled { RulesTabled (length (rows_of setting.book.now)) rules.now }
-    ensures { First (rules_lines (meaning layout.now) (setting_of setting.entry) rules.now) result }
+    ensures { First (rules_lines (L.meaning layout.now) (setting_of setting.entry) rules.now) result }
 {
     for (i, rule) in rules.iter().enumerate() {
         let here = Setting {
@@ -121,7 +121,7 @@ pub(crate) fn check_roles<'x, L: Layout>(
 ) -> Result<(), AccessFault>
     requires names { length names.now ≤ 128 }
     requires tabled { RolesTabled (length (rows_of book.now)) roles.now }
-    ensures { First (roles_lines (meaning layout.now) names.now (rows_of book.now) roles.now) result }
+    ensures { First (roles_lines (L.meaning layout.now) names.now (rows_of book.now) roles.now) result }
 {
     for (i, role) in roles.iter().enumerate() {
         let setting = Setting {

@@ -1,5 +1,7 @@
 //! The place of the earliest element that is the same as a given one: one text for every element
 //! type whose equality is an equivalence.
+#![tactic(auto)]
+
 ghost use Rattle.std.specs.Prelude.{◌≡◌, Bool, true, nat_eq};
 ghost use Rattle.earliest.specs.Places.{Located};
 ghost use Rattle.std.proofs.Common.{rules};
@@ -23,7 +25,7 @@ pub trait Same {
 /// The place, counted from 0, of the first element that is the same as `sought`, or `None` where
 /// no element is.
 pub fn earliest_place<T: Same>(items: &[T], sought: &T) -> Option<usize>
-    ensures { Located same sought.now items.now result }
+    ensures { Located T.same sought.now items.now result }
 {
     for (place, item) in items.iter().enumerate() {
         if item.is_same(sought) {

@@ -7,8 +7,8 @@ use crate::source::Source;
 /// Draws so many names in turn and puts them behind the list, or draws none: true exactly if at
 /// least so many are ahead and the list has memory for them.
 pub fn draw_names<S: Source>(source: &mut S, names: &mut Vec<u32>, count: usize) -> bool
-    ensures test { result ≡ can_draw count (ahead source.old) (vec_len names.old) (vec_capacity names.old) }
-    ensures drawn { AllOrNone result count (ahead source.old) names.old.items (ahead source.new) names.new.items }
+    ensures test { result ≡ can_draw count (S.ahead source.old) (vec_len names.old) (vec_capacity names.old) }
+    ensures drawn { AllOrNone result count (S.ahead source.old) names.old.items (S.ahead source.new) names.new.items }
     ensures capacity { vec_capacity names.new ≡ vec_capacity names.old }
 {
     if !source.at_least(count) {
@@ -23,10 +23,10 @@ pub fn draw_names<S: Source>(source: &mut S, names: &mut Vec<u32>, count: usize)
 
 /// Draws so many names, which are there, into a list that has memory for them.
 fn draw_each<S: Source>(source: &mut S, names: &mut Vec<u32>, count: usize)
-    requires there { count ≤ how_many (ahead source.old) }
+    requires there { count ≤ how_many (S.ahead source.old) }
     requires room { vec_len names.old + count ≤ vec_capacity names.old }
     ensures capacity { vec_capacity names.new ≡ vec_capacity names.old }
-    ensures drawn { ManyDrawn count (ahead source.old) names.old.items (ahead source.new) names.new.items }
+    ensures drawn { ManyDrawn count (S.ahead source.old) names.old.items (S.ahead source.new) names.new.items }
 {
     for _i in 0..count {
         let Some(name) = source.draw() else {

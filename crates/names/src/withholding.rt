@@ -52,7 +52,7 @@ impl<S: Source> Withholding<S> {
 
 /// How many of the names ahead are listed, each counted once.
 fn count_hidden<S: Source>(below: &S, numbers: &[u32]) -> usize
-    ensures { (result ≡ hidden (ahead below.now) numbers.now) × (result ≤ length numbers.now) }
+    ensures { (result ≡ hidden (S.ahead below.now) numbers.now) × (result ≤ length numbers.now) }
 {
     match numbers {
         [] => 0,

@@ -31,7 +31,7 @@ fn second(params: Params) -> Option<Item>
 /// Whether the entry declares `above`, the first parameter of the type, so that the type's items are
 /// granted.
 fn grants_above<L: Layout>(layout: &L, owner: Item, of: Ty, above: Item, entry: Entry) -> bool
-    ensures { result ≡ above_grants (meaning layout.now) owner of above entry }
+    ensures { result ≡ above_grants (L.meaning layout.now) owner of above entry }
 {
     is_same(entry.item, above)
         && layout.grants(
@@ -45,7 +45,7 @@ fn grants_above<L: Layout>(layout: &L, owner: Item, of: Ty, above: Item, entry: 
 
 /// Whether the owner is granted the items of the type.
 fn is_type_granted<L: Layout>(layout: &L, scope: &[Entry], owner: Item, of: Ty) -> bool
-    ensures { result ≡ type_granted (meaning layout.now) scope.now owner of }
+    ensures { result ≡ type_granted (L.meaning layout.now) scope.now owner of }
 {
     let Some(above) = first(of.params) else {
         return layout.grants(code(Some(owner)), of.family, 0, 0, 0);
@@ -66,14 +66,14 @@ fn grants_by_entry<L: Layout>(
     item: Item,
     entry: Entry,
 ) -> bool
-    ensures { result ≡ entry_grants (meaning layout.now) scope.now owner item entry }
+    ensures { result ≡ entry_grants (L.meaning layout.now) scope.now owner item entry }
 {
     is_same(entry.item, item) && is_type_granted(layout, scope, owner, entry.of)
 }
 
 /// Whether the owner is granted the item, by one of its declarations.
 pub(crate) fn is_granted<L: Layout>(layout: &L, scope: &[Entry], owner: Item, item: Item) -> bool
-    ensures { result ≡ item_granted (meaning layout.now) scope.now owner item }
+    ensures { result ≡ item_granted (L.meaning layout.now) scope.now owner item }
 {
     for entry in scope {
         if grants_by_entry(layout, scope, owner, item, *entry) {

@@ -27,7 +27,7 @@ pub struct Reading {
 }
 
 fn is_row_granted<L: Layout>(layout: &L, scope: &[Entry], owner: Owner, row: Row) -> bool
-    ensures { result ≡ row_granted (meaning layout.now) scope.now owner row }
+    ensures { result ≡ row_granted (L.meaning layout.now) scope.now owner row }
 {
     match row {
         Row::Item(item) => is_granted(
@@ -43,7 +43,7 @@ fn is_row_granted<L: Layout>(layout: &L, scope: &[Entry], owner: Owner, row: Row
 /// Which rows are items that are granted to the owner.
 fn granted_rows<L: Layout>(layout: &L, scope: &[Entry], owner: Owner, rows: &[Row]) -> [bool; 512]
     requires { length rows.now ≤ 512 }
-    ensures { take (length rows.now) result ≡ granted_rows (meaning layout.now) scope.now owner rows.now }
+    ensures { take (length rows.now) result ≡ granted_rows (L.meaning layout.now) scope.now owner rows.now }
 {
     let mut granted = [false; 512];
     for (i, row) in rows.iter().enumerate() {
@@ -117,7 +117,7 @@ fn read_rows<L: Layout>(
     requires book { is_book rows.now ≡ true }
     requires few_rows { length rows.now ≤ 512 }
     requires few_items { length scope.now ≤ 144 }
-    ensures { Told (meaning layout.now) (context scope.now) owner rows.now (left_terms owner rows.now left.now) (take (length rows.now) result.held) (take (length rows.now) result.closed) }
+    ensures { Told (L.meaning layout.now) (context scope.now) owner rows.now (left_terms owner rows.now left.now) (take (length rows.now) result.held) (take (length rows.now) result.closed) }
 {
     let n = rows.len();
     let low = lowest_rows(owner, rows);
@@ -146,7 +146,7 @@ pub fn read_left<L: Layout>(
     owner: Owner,
     left: &[Fact],
 ) -> Option<Reading>
-    ensures { MatchOption result (144 < length scope.now) (λ x. Told (meaning layout.now) (context scope.now) owner (rows_of book.now) (left_terms owner (rows_of book.now) left.now) (take (length (rows_of book.now)) x.held) (take (length (rows_of book.now)) x.closed)) }
+    ensures { MatchOption result (144 < length scope.now) (λ x. Told (L.meaning layout.now) (context scope.now) owner (rows_of book.now) (left_terms owner (rows_of book.now) left.now) (take (length (rows_of book.now)) x.held) (take (length (rows_of book.now)) x.closed)) }
 {
     if scope.len() > MAX_DECLARED {
         return None;

@@ -20,7 +20,7 @@ pub struct Opener {
 
 /// Whether the entry declares the key, and the family opens what it locks.
 fn locks_by_entry<L: Layout>(layout: &L, key: Item, family: u8, entry: Entry) -> bool
-    ensures { result ≡ entry_locks (meaning layout.now) key family entry }
+    ensures { result ≡ entry_locks (L.meaning layout.now) key family entry }
 {
     if !is_same(entry.item, key) {
         return false;
@@ -33,7 +33,7 @@ fn locks_by_entry<L: Layout>(layout: &L, key: Item, family: u8, entry: Entry) ->
 
 /// Whether the item is declared as a key, and the family opens what it locks.
 fn locks_for<L: Layout>(layout: &L, scope: &[Entry], key: Item, family: u8) -> bool
-    ensures { result ≡ locks_for (meaning layout.now) scope.now key family }
+    ensures { result ≡ locks_for (L.meaning layout.now) scope.now key family }
 {
     for entry in scope {
         if locks_by_entry(layout, key, family, *entry) {
@@ -72,7 +72,7 @@ fn opener_of<L: Layout>(
     rows: &[Row],
     entry: Entry,
 ) -> Option<Opener>
-    ensures { result ≡ opener_of (meaning layout.now) scope.now owner rows.now entry }
+    ensures { result ≡ opener_of (L.meaning layout.now) scope.now owner rows.now entry }
 {
     let Params::One(key) = entry.of.params else {
         return None;
@@ -95,7 +95,7 @@ pub(crate) fn find_openers<L: Layout>(
     rows: &[Row],
 ) -> [Option<Opener>; 144]
     requires { length scope.now ≤ 144 }
-    ensures { take (length scope.now) result ≡ map (opener_of (meaning layout.now) scope.now owner rows.now) scope.now }
+    ensures { take (length scope.now) result ≡ map (opener_of (L.meaning layout.now) scope.now owner rows.now) scope.now }
 {
     let mut openers = [None; 144];
     for (i, entry) in scope.iter().enumerate() {

@@ -1,4 +1,6 @@
 //! How a refused call is told: six numbers, the same in every layer of the bench.
+#![tactic(auto)]
+
 ghost use Rattle.std.specs.Prelude.{◌++◌, Some};
 ghost use Rattle.refusals.specs.Written.{written};
 

@@ -36,7 +36,7 @@ pub(crate) fn read_list<T: Readable + Drop>(
     heap: Global,
     words: &[&str],
 ) -> Result<Option<Vec<T>>, AllocError>
-    ensures { IfOk result (λ v. option_map vec_items v ≡ all_of reads (map (λ w. w.now) words.now)) }
+    ensures { IfOk result (λ v. option_map vec_items v ≡ all_of T.reads (map (λ w. w.now) words.now)) }
 {
     let mut list = Vec::new(heap);
     for word in words {

@@ -1,4 +1,6 @@
 //! The book of terms: items, rows, and a theory's book, in which each row stands for one term.
+#![tactic(auto)]
+
 pub mod book;
 pub mod faults;
 pub mod row;

@@ -1,4 +1,5 @@
 //! The type check of a theory, over any layout.
+#![tactic(auto)]
 mod facts;
 pub mod faults;
 mod names;

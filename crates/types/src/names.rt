@@ -63,7 +63,7 @@ pub(crate) fn is_of(scope: Scope, item: Item, family: u8) -> bool
 }
 
 pub(crate) fn is_formed<L: Layout>(layout: &L, scope: Scope, of: Ty) -> bool
-    ensures { result ≡ type_formed (meaning layout.now) (scope_of scope.entry) of }
+    ensures { result ≡ type_formed (L.meaning layout.now) (scope_of scope.entry) of }
 {
     if of.family >= layout.families() {
         return false;
@@ -78,7 +78,7 @@ pub(crate) fn is_formed<L: Layout>(layout: &L, scope: Scope, of: Ty) -> bool
 
 /// Whether a name may be declared after those of the scope.
 fn check_name<L: Layout>(layout: &L, before: &[Declared], declared: Declared) -> Result<(), Ill>
-    ensures { result ≡ name_check (meaning layout.now) before.now declared }
+    ensures { result ≡ name_check (L.meaning layout.now) before.now declared }
 {
     if declared.name == 0 {
         return Err(Ill::Taken);
@@ -100,8 +100,8 @@ fn check_name<L: Layout>(layout: &L, before: &[Declared], declared: Declared) ->
 
 /// The signature; a fault's spot is the place of the name.
 pub(crate) fn check_names<L: Layout>(layout: &L, names: &[Declared]) -> Result<(), TypeFault>
-    ensures answer { result ≡ names_check (meaning layout.now) names.now }
-    ensures judged { Passes result (Formed (meaning layout.now) (context_of (names_only names.now))) }
+    ensures answer { result ≡ names_check (L.meaning layout.now) names.now }
+    ensures judged { Passes result (Formed (L.meaning layout.now) (context_of (names_only names.now))) }
 {
     for (i, declared) in names.iter().enumerate() {
         if let Err(ill) = check_name(layout, &names[0..i], *declared) {

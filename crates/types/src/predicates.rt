@@ -30,7 +30,7 @@ fn is_argument_formed<L: Layout>(
     earlier: &[Argument],
     argument: Argument,
 ) -> bool
-    ensures { result ≡ argument_formed (meaning layout.now) names.now earlier.now argument }
+    ensures { result ≡ argument_formed (L.meaning layout.now) names.now earlier.now argument }
 {
     if argument.family >= layout.families() {
         return false;
@@ -49,7 +49,7 @@ fn check_argument_types<L: Layout>(
     names: &[Declared],
     arguments: &[Argument],
 ) -> Result<(), Ill>
-    ensures { result ≡ arguments_formed (meaning layout.now) names.now arguments.now }
+    ensures { result ≡ arguments_formed (L.meaning layout.now) names.now arguments.now }
 {
     for (i, argument) in arguments.iter().enumerate() {
         if !is_argument_formed(layout, names, &arguments[0..i], *argument) {
@@ -64,7 +64,7 @@ fn check_predicate<L: Layout>(
     names: &[Declared],
     arguments: &[Argument],
 ) -> Result<(), Ill>
-    ensures { result ≡ predicate_check (meaning layout.now) names.now arguments.now }
+    ensures { result ≡ predicate_check (L.meaning layout.now) names.now arguments.now }
 {
     check_argument_types(layout, names, arguments)?;
     match arguments {
@@ -88,7 +88,7 @@ pub(crate) fn check_predicates<L: Layout>(
     base: usize,
 ) -> Result<(), TypeFault>
     requires { base + length predicates.now < 2 ^ 64 }
-    ensures { result ≡ predicates_check (meaning layout.now) names.now role base predicates.now }
+    ensures { result ≡ predicates_check (L.meaning layout.now) names.now role base predicates.now }
 {
     for (i, predicate) in predicates.iter().enumerate() {
         if let Err(ill) = check_predicate(layout, names, predicate.arguments.as_slice()) {

@@ -51,7 +51,7 @@ pub(crate) fn row_type(scope: Scope, rows: &[Row], number: usize) -> Option<Ty>
 }
 
 fn is_sent<L: Layout>(layout: &L, of: Option<Ty>) -> bool
-    ensures { result ≡ sends (meaning layout.now) of }
+    ensures { result ≡ sends (L.meaning layout.now) of }
 {
     match of {
         Some(t) => is_msg(t) || layout.is_sendable(t.family),
@@ -60,7 +60,7 @@ fn is_sent<L: Layout>(layout: &L, of: Option<Ty>) -> bool
 }
 
 fn does_seal<L: Layout>(layout: &L, of: Option<Ty>) -> bool
-    ensures { result ≡ seals (meaning layout.now) of }
+    ensures { result ≡ seals (L.meaning layout.now) of }
 {
     match of {
         Some(t) => match layout.kind(t.family) {
@@ -72,7 +72,7 @@ fn does_seal<L: Layout>(layout: &L, of: Option<Ty>) -> bool
 }
 
 fn does_lock<L: Layout>(layout: &L, of: Option<Ty>) -> bool
-    ensures { result ≡ locks (meaning layout.now) of }
+    ensures { result ≡ locks (L.meaning layout.now) of }
 {
     match of {
         Some(t) => match layout.kind(t.family) {
@@ -85,7 +85,7 @@ fn does_lock<L: Layout>(layout: &L, of: Option<Ty>) -> bool
 
 /// Whether a row has msg, told which of the rows before it have.
 fn is_message<L: Layout>(layout: &L, scope: Scope, before: &[Row], marks: &[bool], row: Row) -> bool
-    ensures { result ≡ mark_of (meaning layout.now) (scope_of scope.entry) before.now marks.now row }
+    ensures { result ≡ mark_of (L.meaning layout.now) (scope_of scope.entry) before.now marks.now row }
 {
     match row {
         Row::Item(item) => is_sent(layout, item_type(scope, item)),
@@ -100,7 +100,7 @@ fn is_message<L: Layout>(layout: &L, scope: Scope, before: &[Row], marks: &[bool
 /// Which rows have msg, row by row.
 pub(crate) fn mark_messages<L: Layout>(layout: &L, scope: Scope, rows: &[Row]) -> [bool; 512]
     requires { length rows.now ≤ 512 }
-    ensures { take (length rows.now) result ≡ marks (meaning layout.now) (scope_of scope.entry) rows.now }
+    ensures { take (length rows.now) result ≡ marks (L.meaning layout.now) (scope_of scope.entry) rows.now }
 {
     let mut marks = [false; 512];
     for (i, row) in rows.iter().enumerate() {

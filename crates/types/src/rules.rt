@@ -20,7 +20,7 @@ fn check_variables<'x, L: Layout>(
     variables: &'x [Ty],
 ) -> Result<(), TypeFault>
     requires { length before.now + length variables.now < 2 ^ 64 }
-    ensures { result ≡ variables_check (meaning layout.now) (setting_of setting.entry) before.now variables.now }
+    ensures { result ≡ variables_check (L.meaning layout.now) (setting_of setting.entry) before.now variables.now }
 {
     for (i, of) in variables.iter().enumerate() {
         let scope = Scope {
@@ -121,7 +121,7 @@ fn check_side<'x, L: Layout>(
     base: usize,
 ) -> Result<(), TypeFault>
     requires { (base + length facts.now < 2 ^ 64) × (length setting.rows.now ≤ 512) }
-    ensures { result ≡ facts_check (meaning layout.now) (setting_of setting.entry) (before.now ++ made.now) base facts.now }
+    ensures { result ≡ facts_check (L.meaning layout.now) (setting_of setting.entry) (before.now ++ made.now) base facts.now }
 {
     let scope = Scope {
         names: setting.names,
@@ -149,7 +149,7 @@ fn check_parts<'x, L: Layout>(
     right: &[Fact],
 ) -> Result<(), TypeFault>
     requires { (length setting.rows.now ≤ 512) × ((length universal.now + length made.now < 2 ^ 64) × (length left.now + length right.now < 2 ^ 64)) }
-    ensures { result ≡ parts_check (meaning layout.now) (setting_of setting.entry) universal.now left.now made.now right.now }
+    ensures { result ≡ parts_check (L.meaning layout.now) (setting_of setting.entry) universal.now left.now made.now right.now }
 {
     check_variables(layout, setting, &[], universal)?;
     check_side(layout, setting, &[], universal, left, 0)?;
@@ -163,7 +163,7 @@ pub(crate) fn check_rule<'x, L: Layout>(
     rule: &'x Rule,
 ) -> Result<(), TypeFault>
     requires { (length setting.rows.now ≤ 512) × ((vec_len rule.now.universal + vec_len rule.now.made < 2 ^ 64) × (vec_len rule.now.left + vec_len rule.now.right < 2 ^ 64)) }
-    ensures { result ≡ rule_check (meaning layout.now) (setting_of setting.entry) rule.now }
+    ensures { result ≡ rule_check (L.meaning layout.now) (setting_of setting.entry) rule.now }
 {
     check_parts(
         layout,

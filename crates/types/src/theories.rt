@@ -23,7 +23,7 @@ fn check_rules<'x, L: Layout>(
     rules: &'x [Rule],
 ) -> Result<(), TypeFault>
     requires { (length setting.rows.now ≤ 512) × (Small rules.now) }
-    ensures { result ≡ rules_check (meaning layout.now) (setting_of setting.entry) rules.now }
+    ensures { result ≡ rules_check (L.meaning layout.now) (setting_of setting.entry) rules.now }
 {
     for (i, rule) in rules.iter().enumerate() {
         let here = Setting {
@@ -72,7 +72,7 @@ fn check_role<'x, L: Layout>(
     rules: &'x [Rule],
 ) -> Result<(), TypeFault>
     requires { (length rows.now ≤ 512) × ((Small rules.now) × (length predicates.now < 2 ^ 64)) }
-    ensures { result ≡ role_check (meaning layout.now) names.now memory.now rows.now number anchor predicates.now rules.now }
+    ensures { result ≡ role_check (L.meaning layout.now) names.now memory.now rows.now number anchor predicates.now rules.now }
 {
     check_anchor(names, anchor, number)?;
     check_predicates(layout, names, predicates, number, 0)?;
@@ -97,7 +97,7 @@ fn check_roles<'x, L: Layout>(
     roles: &'x [Role],
 ) -> Result<(), TypeFault>
     requires { (length rows.now ≤ 512) × (SmallRoles roles.now) }
-    ensures { result ≡ roles_check (meaning layout.now) names.now memory.now rows.now roles.now }
+    ensures { result ≡ roles_check (L.meaning layout.now) names.now memory.now rows.now roles.now }
 {
     for (i, role) in roles.iter().enumerate() {
         check_role(
@@ -123,7 +123,7 @@ fn check_tables<'x, L: Layout>(
     roles: &'x [Role],
 ) -> Result<(), TypeFault>
     requires { (length rows.now ≤ 512) × ((SmallRoles roles.now) × (length names.now + length memory.now < 2 ^ 64)) }
-    ensures { result ≡ tables_check (meaning layout.now) names.now memory.now rows.now roles.now }
+    ensures { result ≡ tables_check (L.meaning layout.now) names.now memory.now rows.now roles.now }
 {
     check_names(layout, names)?;
     check_predicates(layout, names, memory, 0, names.len())?;
@@ -132,9 +132,9 @@ fn check_tables<'x, L: Layout>(
 
 /// The type check of a theory.
 pub fn check_types<L: Layout>(layout: &L, theory: &Theory) -> Result<(), TypeFault>
-    ensures answer { result ≡ theory_check (meaning layout.now) theory.now }
-    ensures judged { Passes result (TheoryTyped (meaning layout.now) theory.now) }
-    ensures told { First (theory_lines (meaning layout.now) theory.now) (numbered result) }
+    ensures answer { result ≡ theory_check (L.meaning layout.now) theory.now }
+    ensures judged { Passes result (TheoryTyped (L.meaning layout.now) theory.now) }
+    ensures told { First (theory_lines (L.meaning layout.now) theory.now) (numbered result) }
 {
     check_tables(
         layout,
