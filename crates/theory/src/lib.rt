@@ -1,5 +1,6 @@
 //! Theories as plain data, finished or not, and the check that their tables are whole.
 #![tactic(auto)]
+
 mod counts;
 pub mod data;
 pub mod faults;

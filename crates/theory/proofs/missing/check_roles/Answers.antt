@@ -14,18 +14,18 @@ use Rattle.theory.proofs.missing.check_roles.Goals as goal
 at_place : (s : Sizes) (Rs : List Role) (R : Role) (i : ℕ) → i < length Rs → {Ps : List Predicate} {rules : List Rule} → Ps ≡ vec_items R.predicates → rules ≡ vec_items R.rules → role_missing s (i + 1) Ps rules ≡ placed_role_missing s (take i Rs) R
 at_place s Rs R i within p q = ap₂ (role_missing s (i + 1)) p q ∙ ap (λ n. role_missing s (n + 1) (vec_items R.predicates) (vec_items R.rules)) (sym (length-take-le i Rs (omega arith)))
 
-pub returns-in-err-check-role : goal.returns-in-err-check-role
-returns-in-err-check-role c =
-    let p = err_from_is_err_and c.from-residual.result c.from-residual.ensures.1 in
+pub returns-in_err-check_role : goal.returns-in_err-check_role
+returns-in_err-check_role c =
+    let p = err_from_is_err_and c.from_residual.result c.from_residual.ensures.1 in
     p.1
     ∙ (ap Err p.2
     ∙ walk_here_own (placed_role_missing c.args.sizes) here c.args.roles.now c.loop-i.i _ _ c.index-roles-i.result c.loop-i-test.true refl c.index-roles-i.is c.loop-i.invariant _
-    (c.in-err-check-role.ensures ∙ at_place c.args.sizes c.args.roles.now c.index-roles-i.result c.loop-i.i c.loop-i-test.true c.as-slice.ensures.value c.as-slice-in-loop-i.ensures.value))
+    (c.in_err-check_role.ensures ∙ at_place c.args.sizes c.args.roles.now c.index-roles-i.result c.loop-i.i c.loop-i-test.true c.as_slice.ensures.value c.as_slice-in-loop-i.ensures.value))
 
 pub loop-i-preserved : goal.loop-i-preserved
 loop-i-preserved c =
     walk_later_own (placed_role_missing c.args.sizes) here c.args.roles.now c.loop-i.i _ _ c.index-roles-i.result c.loop-i-test.true refl c.index-roles-i.is c.loop-i.invariant _
-    (c.in-ok-check-role.ensures ∙ at_place c.args.sizes c.args.roles.now c.index-roles-i.result c.loop-i.i c.loop-i-test.true c.as-slice.ensures.value c.as-slice-in-loop-i.ensures.value)
+    (c.in_ok-check_role.ensures ∙ at_place c.args.sizes c.args.roles.now c.index-roles-i.result c.loop-i.i c.loop-i-test.true c.as_slice.ensures.value c.as_slice-in-loop-i.ensures.value)
 
 pub returns : goal.returns
 returns c = sym (walk_none (placed_role_missing c.args.sizes) here c.args.roles.now c.loop-i.i c.loop-i-test.false) ∙ c.loop-i.invariant
