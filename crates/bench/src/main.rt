@@ -3,6 +3,7 @@
 //! `bench SCRIPT..` plays the files in turn, each from the beginning; `-`, and no word at all, stand
 //! for standard input.
 #![tactic(auto)]
+
 use desk::Desk;
 use std::alloc::Global;
 use std::io::{BufRead, BufReader, BufWriter, Read, Write};

@@ -1,7 +1,6 @@
-ghost use Rattle.std.specs.Prelude.{◌≡◌, drop};
+ghost use Rattle.std.specs.Prelude.{◌≡◌};
 ghost use Rattle.names.specs.Any.{view_of, ahead_in, Steps, Loads};
-ghost use Rattle.names.specs.Reading.{listed_name, once_drop};
-ghost use Rattle.names.specs.AnySourceSourceLemmas.{counted};
+ghost use Rattle.names.specs.AnySourceSourceLemmas.{names_in_range};
 
 use crate::counter::Counter;
 use crate::faults::ListFault;
@@ -33,10 +32,7 @@ impl Source for AnySource {
 
     ghost draws = { λ s r t. Steps (view_of s) r (view_of t) };
 
-    ghost names = { elim [
-      | any.Counter c ↦ λ n e. counted c.next n c.low e
-      | any.Roll r ↦ λ n e. listed_name (drop r.read r.numbers.items) n (once_drop r.numbers.items r.read r.once) e
-    ] };
+    ghost names = { names_in_range };
 
     fn is_ahead(&self, name: u32) -> bool {
         match self {

@@ -1,6 +1,7 @@
 //! Sources of fresh names: the trait that says what a source is, three makes of it, and names drawn
 //! in turn from any of them.
 #![tactic(auto)]
+
 pub mod any;
 pub mod counter;
 pub mod drawing;

@@ -1,5 +1,6 @@
 //! The type check of a theory, over any layout.
 #![tactic(auto)]
+
 mod facts;
 pub mod faults;
 mod names;

@@ -11,8 +11,8 @@ returns-in-empty g t c =
     let e : hidden f c.args.numbers.now ≡ 0 = none_there (hidden f) c.args.numbers.now z in
     search rules
 
-pub returns-then-not-is-listed : goal.returns-then-not-is-listed
-returns-then-not-is-listed g t c =
+pub returns-then-not-is_listed : goal.returns-then-not-is_listed
+returns-then-not-is_listed g t c =
     let f = g.S.Source.ahead c.args.below.now in
     let xs = c.args.numbers.now in
     let rest = take (length xs - 1) (drop 1 xs) in
@@ -20,8 +20,8 @@ returns-then-not-is-listed g t c =
     let e : hidden f xs ≡ one_if (f (get_or xs 0 0) && not (listed rest (get_or xs 0 0))) + hidden f rest = taken_apart (hidden f) xs 0 pos in
     search rules
 
-pub returns-else-is-ahead : goal.returns-else-is-ahead
-returns-else-is-ahead g t c =
+pub returns-else-is_ahead : goal.returns-else-is_ahead
+returns-else-is_ahead g t c =
     let f = g.S.Source.ahead c.args.below.now in
     let xs = c.args.numbers.now in
     let rest = take (length xs - 1) (drop 1 xs) in

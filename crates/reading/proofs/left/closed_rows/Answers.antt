@@ -13,7 +13,7 @@ loop-i-preserved c =
     let room : i < length c.loop-i.closed = omega arith in
     let place : i + 1 ≡ length (take i w.rows) + 1 = ap (λ n. n + 1) (sym (length-take-le i w.rows (omega arith))) in (
       simp length-set c.loop-i.invariant.0,
-      fill_more (closed_by w c.args.got.now) w.rows c.loop-i.closed i _ _ _ (row.Item (item.Name 0)) c.is-closed.result c.loop-i-test.true room refl refl c.loop-i.invariant.1 (c.is-closed.ensures ∙ ap (λ n. closed_of w c.args.got.now n (get_or w.rows i (row.Item (item.Name 0)))) place),
+      fill_more (closed_by w c.args.got.now) w.rows c.loop-i.closed i _ _ _ (row.Item (item.Name 0)) c.is_closed.result c.loop-i-test.true room refl refl c.loop-i.invariant.1 (c.is_closed.ensures ∙ ap (λ n. closed_of w c.args.got.now n (get_or w.rows i (row.Item (item.Name 0)))) place),
     )
 
 pub returns : goal.returns

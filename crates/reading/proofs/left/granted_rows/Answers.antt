@@ -8,7 +8,7 @@ loop-i-preserved g c =
     let lay = g.L.Layout.meaning c.args.layout.now in
     let room : c.loop-i.i < length c.loop-i.granted = omega arith in (
       simp length-set c.loop-i.invariant.0,
-      fill_more (granted_by lay c.args.scope.now c.args.owner) c.args.rows.now c.loop-i.granted c.loop-i.i _ _ _ _ c.is-row-granted.result c.loop-i-test.true room refl refl c.loop-i.invariant.1 c.is-row-granted.ensures,
+      fill_more (granted_by lay c.args.scope.now c.args.owner) c.args.rows.now c.loop-i.granted c.loop-i.i _ _ _ _ c.is_row_granted.result c.loop-i-test.true room refl refl c.loop-i.invariant.1 c.is_row_granted.ensures,
     )
 
 pub returns : goal.returns

@@ -12,7 +12,7 @@ loop-i-preserved c =
     let room : i < length c.loop-i.held = omega arith in
     let place : i + 1 ≡ length (take i w.rows) + 1 = ap (λ n. n + 1) (sym (length-take-le i w.rows (omega arith))) in (
       simp length-set c.loop-i.invariant.0,
-      fill_more (held_by w c.args.got.now) w.rows c.loop-i.held i _ _ _ (row.Pair 0 0) c.is-held.result c.loop-i-test.true room refl refl c.loop-i.invariant.1 (c.is-held.ensures ∙ ap (held_of w c.args.got.now) place),
+      fill_more (held_by w c.args.got.now) w.rows c.loop-i.held i _ _ _ (row.Pair 0 0) c.is_held.result c.loop-i-test.true room refl refl c.loop-i.invariant.1 (c.is_held.ensures ∙ ap (held_of w c.args.got.now) place),
     )
 
 pub returns : goal.returns

@@ -8,7 +8,7 @@ loop-i-preserved c =
     let room' : c.loop-i.i < length c.loop-i.seen = omega arith in (
       simp length-set c.loop-i.invariant.0,
       simp length-set c.loop-i.invariant.1,
-      lowered_more c.args.owner c.args.rows.now c.loop-i.seen c.loop-i.low c.loop-i.i _ _ _ _ (take (c.loop-i.i - 0) c.loop-i.low) (take (c.loop-i.i - 0) c.loop-i.seen) c.loop-i-test.true room room' (search rules) (search rules) c.reduce-sought.ensures c.number-in.ensures c.loop-i.invariant.2,
+      lowered_more c.args.owner c.args.rows.now c.loop-i.seen c.loop-i.low c.loop-i.i _ _ _ _ (take (c.loop-i.i - 0) c.loop-i.low) (take (c.loop-i.i - 0) c.loop-i.seen) c.loop-i-test.true room room' (search rules) (search rules) c.reduce-sought.ensures c.number_in.ensures c.loop-i.invariant.2,
     )
 
 pub returns : goal.returns

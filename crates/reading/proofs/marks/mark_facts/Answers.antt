@@ -9,7 +9,7 @@ loop-fact-preserved c =
     let low = c.args.low.now in
     let i = c.loop-fact.fact-index in
     let x = c.fact-item.result in
-    ap (λ got. put_facts low got (drop (i + 1) fs)) (c.mark-rows.ensures ∙ ap (put_all low c.loop-fact.got) (c.as-slice.ensures.value ∙ ap (λ f. vec_items f.rows) c.fact-item.is))
+    ap (λ got. put_facts low got (drop (i + 1) fs)) (c.mark_rows.ensures ∙ ap (put_all low c.loop-fact.got) (c.as_slice.ensures.value ∙ ap (λ f. vec_items f.rows) c.fact-item.is))
     ∙ sym (at_drop_more (put_facts low c.loop-fact.got) fs i x c.loop-fact-test.true)
     ∙ c.loop-fact.invariant
 

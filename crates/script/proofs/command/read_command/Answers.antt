@@ -5,10 +5,10 @@ use Rattle.script.specs.Commands.{command_of}
 use Rattle.script.proofs.Matching.{head_rest, no_command}
 use Rattle.script.proofs.command.read_command.Goals as goal
 
-pub returns-in-default : goal.returns-in-default
-returns-in-default c = let none : length c.args.words.now < 1 = search rules in no_command c.args.words.now none
+pub returns-in_default : goal.returns-in_default
+returns-in_default c = let none : length c.args.words.now < 1 = search rules in no_command c.args.words.now none
 
 pub returns : goal.returns
 returns c =
     let some : 1 ≤ length c.args.words.now = search rules in
-    subst (λ ws. IfOk c.read-headed.result (λ o. option_map said o ≡ command_of ws)) (sym (head_rest c.args.words.now _ some)) c.read-headed.ensures
+    subst (λ ws. IfOk c.read_headed.result (λ o. option_map said o ≡ command_of ws)) (sym (head_rest c.args.words.now _ some)) c.read_headed.ensures

@@ -6,14 +6,14 @@ use Rattle.script.proofs.command.read_declared.Goals as goal
 pub returns : goal.returns
 returns c =
     let two : length c.args.words.now ≡ 2 = search rules in
-    c.read-name.ensures ∙ sym (ap declared_of (two_words c.args.words.now _ two))
+    c.read_name.ensures ∙ sym (ap declared_of (two_words c.args.words.now _ two))
 
-pub returns-in-default : goal.returns-in-default
-returns-in-default c =
+pub returns-in_default : goal.returns-in_default
+returns-in_default c =
     let two : (length c.args.words.now ≡ 2 → ⊥) = search rules in
     no_name c.args.words.now two
 
-pub returns-in-default·2 : goal.returns-in-default·2
-returns-in-default·2 c =
+pub returns-in_default-2 : goal.returns-in_default-2
+returns-in_default-2 c =
     let two : (length c.args.words.now ≡ 2 → ⊥) = search rules in
     no_name c.args.words.now two

@@ -9,7 +9,7 @@ returns-in-None g c = list_broken g.T.Readable.reads (vec_items c.loop-word.list
 
 pub loop-word-preserved : goal.loop-word-preserved
 loop-word-preserved g c =
-    ap (λ xs. joined xs (all_of g.T.Readable.reads (told (drop (c.loop-word.word-index + 1) c.args.words.now)))) c.in-ok-push.ensures.items
+    ap (λ xs. joined xs (all_of g.T.Readable.reads (told (drop (c.loop-word.word-index + 1) c.args.words.now)))) c.in_ok-push-in-Some.ensures.items
     ∙ list_more g.T.Readable.reads (vec_items c.loop-word.list) c.args.words.now c.loop-word.word-index _ c.loop-word-test.true c.in-Some.one c.in-Some.ensures
     ∙ c.loop-word.invariant
 

@@ -13,11 +13,11 @@ loop-piece-preserved c =
     let callee = c.loop-piece.invariant.2 in
     (tt, tt, (cc), turn_empty _ c.args.line.now _ _ _ _ _ s.0 (rw callee at s.1.1) c.loop-piece.invariant.3 (cc))
 
-pub loop-piece-preserved-in-Continue· : goal.loop-piece-preserved-in-Continue·
-loop-piece-preserved-in-Continue· c =
+pub loop-piece-preserved-in-Continue-1 : goal.loop-piece-preserved-in-Continue-1
+loop-piece-preserved-in-Continue-1 c =
     let s = c.in-Some.ensures.steps in
     let callee = c.loop-piece.invariant.2 in
-    let items = ap (map (λ w. w.now)) c.in-ok-push.ensures.items ∙ gathered (vec_items c.loop-piece.found) c.in-Some.piece in
+    let items = ap (map (λ w. w.now)) c.in_ok-push.ensures.items ∙ gathered (vec_items c.loop-piece.found) c.in-Some.piece in
     let next = turn_word _ c.args.line.now _ _ _ _ _ s.0 (rw callee at s.1.1) c.loop-piece.invariant.3 (cc) in
     (tt, tt, (cc), ap (λ l. l ++ cond (split_has_more c.next.new.self) (words (split_text c.next.new.self)) []) items ∙ next)
 

@@ -15,7 +15,7 @@ returns-in-Err g c =
 
 pub loop-i-preserved : goal.loop-i-preserved
 loop-i-preserved g c =
-    walk_later (name_check (g.L.Layout.meaning c.args.layout.now)) at_name c.args.names.now c.loop-i.i _ _ _ c.loop-i-test.true (search rules) c.loop-i.invariant _ c.in-default.ensures
+    walk_later (name_check (g.L.Layout.meaning c.args.layout.now)) at_name c.args.names.now c.loop-i.i _ _ _ c.loop-i-test.true (search rules) c.loop-i.invariant _ c.in_default.ensures
 
 pub returns : goal.returns
 returns g c =

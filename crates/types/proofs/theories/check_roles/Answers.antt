@@ -16,20 +16,20 @@ at_place : (lay : Meaning) (ds : List Declared) (memory : List Predicate) (rows 
 at_place lay ds memory rows Rs R i within p q =
     ap₂ (role_check lay ds memory rows (i + 1) R.anchor) p q ∙ ap (λ n. role_at lay ds memory rows (n + 1) R) (sym (length-take-le i Rs (omega arith)))
 
-pub returns-in-err-check-role : goal.returns-in-err-check-role
-returns-in-err-check-role g c =
+pub returns-in_err-check_role : goal.returns-in_err-check_role
+returns-in_err-check_role g c =
     let lay = g.L.Layout.meaning c.args.layout.now in
-    let p = err_from_is_err_and c.from-residual.result c.from-residual.ensures.1 in
+    let p = err_from_is_err_and c.from_residual.result c.from_residual.ensures.1 in
     p.1
     ∙ (ap Err p.2
     ∙ walk_here_own (placed_check lay c.args.names.now c.args.memory.now c.args.rows.now) here c.args.roles.now c.loop-i.i _ _ c.index-roles-i.result c.loop-i-test.true refl c.index-roles-i.is c.loop-i.invariant _
-    (c.in-err-check-role.ensures ∙ at_place lay c.args.names.now c.args.memory.now c.args.rows.now c.args.roles.now c.index-roles-i.result c.loop-i.i c.loop-i-test.true c.as-slice.ensures.value c.as-slice-in-loop-i.ensures.value))
+    (c.in_err-check_role.ensures ∙ at_place lay c.args.names.now c.args.memory.now c.args.rows.now c.args.roles.now c.index-roles-i.result c.loop-i.i c.loop-i-test.true c.as_slice.ensures.value c.as_slice-in-loop-i.ensures.value))
 
 pub loop-i-preserved : goal.loop-i-preserved
 loop-i-preserved g c =
     let lay = g.L.Layout.meaning c.args.layout.now in
     walk_later_own (placed_check lay c.args.names.now c.args.memory.now c.args.rows.now) here c.args.roles.now c.loop-i.i _ _ c.index-roles-i.result c.loop-i-test.true refl c.index-roles-i.is c.loop-i.invariant _
-    (c.in-ok-check-role.ensures ∙ at_place lay c.args.names.now c.args.memory.now c.args.rows.now c.args.roles.now c.index-roles-i.result c.loop-i.i c.loop-i-test.true c.as-slice.ensures.value c.as-slice-in-loop-i.ensures.value)
+    (c.in_ok-check_role.ensures ∙ at_place lay c.args.names.now c.args.memory.now c.args.rows.now c.args.roles.now c.index-roles-i.result c.loop-i.i c.loop-i-test.true c.as_slice.ensures.value c.as_slice-in-loop-i.ensures.value)
 
 pub returns : goal.returns
 returns g c =

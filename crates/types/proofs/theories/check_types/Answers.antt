@@ -12,5 +12,5 @@ returns g c =
     let lay = g.L.Layout.meaning c.args.layout.now in
     let T = c.args.theory.now in
     let law = g.met.L.Layout.lawful c.args.layout.now in
-    let e : c.check-tables.result ≡ theory_check lay T = c.check-tables.ensures ∙ tables_same lay c.as-slice.ensures.value c.as-slice-2.ensures.value c.rows.ensures.value c.as-slice-3.ensures.value in
+    let e : c.check_tables.result ≡ theory_check lay T = c.check_tables.ensures ∙ tables_same lay c.as_slice.ensures.value c.as_slice-2.ensures.value c.rows.ensures.value c.as_slice-3.ensures.value in
     record { answer = e; judged = passes_same e (theory_passes lay law T); told = subst (λ r. First (theory_lines lay T) (numbered r)) (sym e) (theory_first lay law T) }

@@ -10,5 +10,5 @@ returns g c =
     let ws = vec_items c.args.self.now.withheld in
     let all : how_many (minus f ws) + hidden f ws ≡ how_many f = how_many_minus f (λ n t. (g.met.S.Source.names _ n t).1) ws in
     let few : how_many f ≤ 4294967296 = count_le f 4294967296 in
-    let back : c.count-hidden-kept-back.result ≡ hidden f ws = search rules in
-    c.at-least.ensures ∙ leb_iff _ _ _ _ (λ h. omega arith) (λ h. omega arith)
+    let back : c.count_hidden-kept_back.result ≡ hidden f ws = search rules in
+    c.at_least.ensures ∙ leb_iff _ _ _ _ (λ h. omega arith) (λ h. omega arith)
