@@ -15,8 +15,8 @@ loop-i-preserved c =
     let room : i < length c.loop-i.can = omega arith in
     let place : i + 1 ≡ length (take i rows) + 1 = ap (λ n. n + 1) (sym (length-take-le i rows (omega arith))) in (
       simp length-set c.loop-i.invariant.0,
-      fill_more (can_by b.owner b.universal b.made b.held.now) rows c.loop-i.can i _ _ had (row.Item (item.Name 0)) c.can-build-flag.result c.loop-i-test.true room refl (search rules) c.loop-i.invariant.1
-          (c.can-build-flag.ensures ∙ ap (λ n. can_build b.owner b.universal b.made b.held.now n had (get_or rows i (row.Item (item.Name 0)))) place),
+      fill_more (can_by b.owner b.universal b.made b.held.now) rows c.loop-i.can i _ _ had (row.Item (item.Name 0)) c.can_build-flag.result c.loop-i-test.true room refl (search rules) c.loop-i.invariant.1
+          (c.can_build-flag.ensures ∙ ap (λ n. can_build b.owner b.universal b.made b.held.now n had (get_or rows i (row.Item (item.Name 0)))) place),
     )
 
 pub returns : goal.returns

@@ -9,14 +9,14 @@ returns-in-Err c =
     let e = setting_of c.args.setting in
     let can = c.args.can.now in
     walk_here_own (built_check can) (at_spot e.role e.rule c.args.base) c.args.facts.now c.loop-i.i _ _ c.index-facts-i.result c.loop-i-test.true refl c.index-facts-i.is c.loop-i.invariant _
-    (c.in-Err.ensures ∙ ap (arguments_check can) c.as-slice.ensures.value)
+    (c.in-Err.ensures ∙ ap (arguments_check can) c.as_slice.ensures.value)
 
 pub loop-i-preserved : goal.loop-i-preserved
 loop-i-preserved c =
     let e = setting_of c.args.setting in
     let can = c.args.can.now in
     walk_later_own (built_check can) (at_spot e.role e.rule c.args.base) c.args.facts.now c.loop-i.i _ _ c.index-facts-i.result c.loop-i-test.true refl c.index-facts-i.is c.loop-i.invariant _
-    (c.in-default.ensures ∙ ap (arguments_check can) c.as-slice.ensures.value)
+    (c.in_default.ensures ∙ ap (arguments_check can) c.as_slice.ensures.value)
 
 pub returns : goal.returns
 returns c =

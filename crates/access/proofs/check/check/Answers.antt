@@ -7,27 +7,27 @@ use Rattle.types.specs.Typed.{TheoryTyped}
 use Rattle.access.proofs.Checking.{answered, all_passes}
 use Rattle.access.proofs.check.check.Goals as goal
 
-pub returns-in-err-check-rules-of : goal.returns-in-err-check-rules-of
-returns-in-err-check-rules-of g c =
+pub returns-in_err-check_rules_of : goal.returns-in_err-check_rules_of
+returns-in_err-check_rules_of g c =
     let lay = g.L.Layout.meaning c.args.layout.now in
     let T = c.args.theory.now in
-    let tables : tables_check T [] ≡ pass = sym (c.in-ok-check-tables.ensures ∙ ap (tables_check T) c.default.ensures) in
-    let types : theory_check lay T ≡ pass = sym c.in-ok-check-types.ensures.answer in
-    let typed : TheoryTyped lay T = c.in-ok-check-types.ensures.judged.holds refl in
-    let f = err_from_is_err_and c.from-residual-in-err-check-rules-of.result c.from-residual-in-err-check-rules-of.ensures.1 in
+    let tables : tables_check T [] ≡ pass = sym (c.in_ok-check_tables.ensures ∙ ap (tables_check T) c.default.ensures) in
+    let types : theory_check lay T ≡ pass = sym c.in_ok-check_types.ensures.answer in
+    let typed : TheoryTyped lay T = c.in_ok-check_types.ensures.judged.holds refl in
+    let f = err_from_is_err_and c.from_residual-in_err-check_rules_of.result c.from_residual-in_err-check_rules_of.ensures.1 in
     record {
-      answer = answered lay T tables (Err c.in-err-check-rules-of.field-0.0) c.in-err-check-rules-of.ensures _ (f.1 ∙ ap Err f.2) types typed;
-      judged = all_passes lay T tables (Err c.in-err-check-rules-of.field-0.0) c.in-err-check-rules-of.ensures _ (f.1 ∙ ap Err f.2) types typed;
+      answer = answered lay T tables (Err c.in_err-check_rules_of.field-0.0) c.in_err-check_rules_of.ensures _ (f.1 ∙ ap Err f.2) types typed;
+      judged = all_passes lay T tables (Err c.in_err-check_rules_of.field-0.0) c.in_err-check_rules_of.ensures _ (f.1 ∙ ap Err f.2) types typed;
     }
 
 pub returns : goal.returns
 returns g c =
     let lay = g.L.Layout.meaning c.args.layout.now in
     let T = c.args.theory.now in
-    let tables : tables_check T [] ≡ pass = sym (c.in-ok-check-tables.ensures ∙ ap (tables_check T) c.default.ensures) in
-    let types : theory_check lay T ≡ pass = sym c.in-ok-check-types.ensures.answer in
-    let typed : TheoryTyped lay T = c.in-ok-check-types.ensures.judged.holds refl in
+    let tables : tables_check T [] ≡ pass = sym (c.in_ok-check_tables.ensures ∙ ap (tables_check T) c.default.ensures) in
+    let types : theory_check lay T ≡ pass = sym c.in_ok-check_types.ensures.answer in
+    let typed : TheoryTyped lay T = c.in_ok-check_types.ensures.judged.holds refl in
     record {
-      answer = answered lay T tables (Ok (tt {0})) c.in-ok-check-rules-of.ensures (Ok (tt {0})) refl types typed;
-      judged = all_passes lay T tables (Ok (tt {0})) c.in-ok-check-rules-of.ensures (Ok (tt {0})) refl types typed;
+      answer = answered lay T tables (Ok (tt {0})) c.in_ok-check_rules_of.ensures (Ok (tt {0})) refl types typed;
+      judged = all_passes lay T tables (Ok (tt {0})) c.in_ok-check_rules_of.ensures (Ok (tt {0})) refl types typed;
     }

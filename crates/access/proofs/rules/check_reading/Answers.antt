@@ -12,5 +12,5 @@ returns g c =
     let u = c.args.universal in
     let m = length c.args.made.now in
     let held = c.args.held.now in
-    let can-is : take (length rows - 0) c.buildable-rows-can.result ≡ can_rows e.owner u m held e.rows = ap (λ k. take k c.buildable-rows-can.result) n ∙ c.buildable-rows-can.ensures ∙ ap (can_rows e.owner u m held) c.rows-rows.ensures.value in
-    c.check-built.ensures ∙ ap (λ can. all_built_check e can c.args.base c.args.right.now) can-is ∙ passed_both _ _ _ _ _ c.in-ok-check-closed.ensures c.in-ok-check-made.ensures
+    let can-is : take (length rows - 0) c.buildable_rows-can.result ≡ can_rows e.owner u m held e.rows = ap (λ k. take k c.buildable_rows-can.result) n ∙ c.buildable_rows-can.ensures ∙ ap (can_rows e.owner u m held) c.rows-rows.ensures.value in
+    c.check_built.ensures ∙ ap (λ can. all_built_check e can c.args.base c.args.right.now) can-is ∙ passed_both _ _ _ _ _ c.in_ok-check_closed.ensures c.in_ok-check_made.ensures

@@ -10,19 +10,19 @@ use Rattle.access.proofs.rules.check_rules.Goals as goal
 pub loop-i-init : goal.loop-i-init
 loop-i-init g c = λ r h. h
 
-pub check-rule-requires : goal.check-rule-requires
-check-rule-requires g c = record { names = c.requires.names; tabled = c.requires.tabled _ (in_place c.args.rules.now c.loop-i.i c.index-rules-i.result c.loop-i-test.true c.index-rules-i.is) }
+pub check_rule-requires : goal.check_rule-requires
+check_rule-requires g c = record { names = c.requires.names; tabled = c.requires.tabled _ (in_place c.args.rules.now c.loop-i.i c.index-rules-i.result c.loop-i-test.true c.index-rules-i.is) }
 
-pub returns-in-err-check-rule : goal.returns-in-err-check-rule
-returns-in-err-check-rule g c =
+pub returns-in_err-check_rule : goal.returns-in_err-check_rule
+returns-in_err-check_rule g c =
     let lay = g.L.Layout.meaning c.args.layout.now in
     let e = setting_of c.args.setting in
     let rules = c.args.rules.now in
-    let f = err_from_is_err_and c.from-residual.result c.from-residual.ensures.1 in
+    let f = err_from_is_err_and c.from_residual.result c.from_residual.ensures.1 in
     let place = place_of_next rules c.loop-i.i c.loop-i-test.true in
     subst (First (rules_lines lay e rules)) (sym (f.1 ∙ ap Err f.2))
     (leads_stop (λ seen R. rule_lines lay (numbered e (length seen + 1)) R) rules c.loop-i.i c.index-rules-i.result c.loop-i-test.true c.index-rules-i.is c.loop-i.invariant _
-    (subst (λ n. First (rule_lines lay (numbered e n) c.index-rules-i.result) (Err c.in-err-check-rule.field-0.0)) place c.in-err-check-rule.ensures))
+    (subst (λ n. First (rule_lines lay (numbered e n) c.index-rules-i.result) (Err c.in_err-check_rule.field-0.0)) place c.in_err-check_rule.ensures))
 
 pub loop-i-preserved : goal.loop-i-preserved
 loop-i-preserved g c =
@@ -31,7 +31,7 @@ loop-i-preserved g c =
     let rules = c.args.rules.now in
     let place = place_of_next rules c.loop-i.i c.loop-i-test.true in
     leads_more (λ seen R. rule_lines lay (numbered e (length seen + 1)) R) rules c.loop-i.i c.index-rules-i.result c.loop-i-test.true c.index-rules-i.is c.loop-i.invariant
-    (subst (λ n. First (rule_lines lay (numbered e n) c.index-rules-i.result) (Ok (tt {0}))) place c.in-ok-check-rule.ensures)
+    (subst (λ n. First (rule_lines lay (numbered e n) c.index-rules-i.result) (Ok (tt {0}))) place c.in_ok-check_rule.ensures)
 
 pub returns : goal.returns
 returns g c =

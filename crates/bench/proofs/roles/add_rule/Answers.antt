@@ -4,4 +4,4 @@ use Rattle.bench.proofs.roles.add_rule.Goals as goal
 
 pub returns : goal.returns
 returns c =
-    kept_inside (with_rules (written_role c.args.role.now)) (kept_map written_rule _ _ _ _ _ c.begun-rule.ensures c.put.ensures)
+    kept_inside (with_rules (written_role c.args.role.now)) (kept_map written_rule _ _ _ _ _ c.begun_rule.ensures c.put.ensures)

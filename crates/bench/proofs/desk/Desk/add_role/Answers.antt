@@ -7,4 +7,4 @@ use Rattle.bench.proofs.desk.Desk.add_role.Goals as goal
 pub returns : goal.returns
 returns c =
     let s = state_of c.args.self.now in
-    kept_inside (λ roles. with_theory s (with_roles s.theory roles)) (kept_map written_role _ _ _ _ _ c.begun-role-begun.ensures c.put.ensures)
+    kept_inside (λ roles. with_theory s (with_roles s.theory roles)) (kept_map written_role _ _ _ _ _ c.begun_role-begun.ensures c.put.ensures)
