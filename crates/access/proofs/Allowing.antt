@@ -1,8 +1,8 @@
 -- The demands of the access check are met exactly where every rule is allowed.
-use Rattle.std.proofs.Common.{◌≡◌, ℕ, zero, suc, ◌+◌, ◌-◌, ◌<◌, ◌≤◌, true, ◌⊎◌, List, [], ◌∷◌, ◌++◌, map, length, get_or, Some, None, vec_items, Option, sym, refl, ap, ◌∙◌, subst, inl, inr, ⊎_elim, arith}
+use Rattle.std.proofs.Common.{◌≡◌, ℕ, zero, suc, ◌+◌, ◌-◌, ◌<◌, true, List, [], ◌∷◌, ◌++◌, map, length, Some, vec_items, sym, refl, ap, ◌∙◌, subst, ⊎_elim, arith}
 use mathlib.Core.List.Memᴰ
-use Rattle.judgments.specs.Access.{Received, argument, first, second, unsealed, unlocked, Held, Opens, Opened, Built, InRule, Owned, RuleAllowed}
-use Rattle.judgments.specs.Contexts.{Ty, ty, Decl, ◌∶◌, Context, ◌∈◌}
+use Rattle.judgments.specs.Access.{Received, argument, first, second, unsealed, unlocked, Opened, Built, InRule, Owned}
+use Rattle.judgments.specs.Contexts.{ty, ◌∶◌, Context, ◌∈◌}
 use Rattle.judgments.specs.Rules.{arguments}
 use Rattle.judgments.specs.Rules as rules
 use Rattle.layouts.specs.Meanings.{Meaning}
@@ -12,7 +12,7 @@ use Rattle.refusals.specs.Demands.{Lines, Holds, carried, lines}
 use Rattle.std.proofs.lemmas.List.{length_push}
 use Rattle.std.specs.List.{slice_get}
 use Rattle.terms.proofs.Booked.{Earlier, earlier}
-use Rattle.terms.proofs.Numbered.{row_within, row_there, row_from_one, is_row_from}
+use Rattle.terms.proofs.Numbered.{row_within, row_there, is_row_from}
 use Rattle.terms.specs.Books.{is_book}
 use Rattle.terms.specs.Held.{rows_of}
 use Rattle.terms.specs.Terms.{Term, item, pair, seal, lock}
@@ -28,16 +28,16 @@ use Rattle.theory.specs.declared.data.Theory.{Theory}
 use Rattle.theory.specs.declared.data.Ty as tables
 use Rattle.types.proofs.Found.{declare_at, declare_cases}
 use Rattle.types.proofs.Ruled.{declare_onto}
-use Rattle.types.specs.Judged.{declare, variable_decl, context_of}
+use Rattle.types.specs.Judged.{variable_decl, context_of}
 use Rattle.types.specs.Rows.{row_at, term_at}
 use Rattle.types.specs.Rules.{Place, over}
 use Rattle.types.specs.Theories.{place_of, numbered}
 use Rattle.types.specs.Typed.{fact_of, rule_of}
 use Rattle.access.proofs.Ruling.{row_of_there}
 use Rattle.access.specs.Allowed.{RuleAllowedIn, TheoryAllowed}
-use Rattle.access.specs.Demands.{Parts, parts_of, before_made, made_of, left_of, CanBuild, owner_lines, open_lines, made_lines, argument_lines, built_lines, parts_lines, rule_lines, rules_lines, role_lines, roles_lines, theory_lines}
+use Rattle.access.specs.Demands.{Parts, parts_of, before_made, made_of, left_of, CanBuild, owner_lines, open_lines, made_lines, argument_lines, built_lines, rule_lines, role_lines, theory_lines}
 use Rattle.access.specs.Places.{at_spot, at_rule, here}
-use Rattle.access.specs.Tabled.{FactsThere, PartsTabled, RolesTabled}
+use Rattle.access.specs.Tabled.{PartsTabled, RolesTabled}
 use Rattle.access.specs.declared.faults.AccessFault.{AccessFault}
 
 -- ---- tables whose demands are all met

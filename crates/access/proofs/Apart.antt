@@ -1,5 +1,5 @@
 -- The first argument, apart from the rest.
-use Rattle.std.proofs.Common.{◌≡◌, ℕ, ◌-◌, ◌<◌, Bool, List, [], ◌∷◌, length, get_or, take, drop, sym, refl, ap, ◌∙◌, arith}
+use Rattle.std.proofs.Common.{◌≡◌, ℕ, ◌-◌, ◌<◌, List, [], ◌∷◌, length, get_or, take, drop, sym, refl, ap, arith}
 use Rattle.std.proofs.lemmas.List.{take_all}
 use Rattle.terms.specs.declared.row.Row.{Row}
 use Rattle.theory.specs.declared.owner.Owner.{Owner}

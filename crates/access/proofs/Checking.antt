@@ -1,5 +1,5 @@
 -- The answers of the checks, one after the other.
-use Rattle.std.proofs.Common.{◌≡◌, List, [], ◌∷◌, Ok, Err, sym, refl, ap, ◌∙◌, subst, inl, inr}
+use Rattle.std.proofs.Common.{◌≡◌, [], ◌∷◌, Ok, Err, sym, refl, ap, ◌∙◌, subst, inl, inr}
 use Rattle.layouts.specs.Meanings.{Meaning}
 use Rattle.refusals.proofs.Deciding.{clash, passes_as}
 use Rattle.refusals.proofs.Demanding.{first_passes}

@@ -1,31 +1,31 @@
 -- The tests of a rule decide its demands.
-use Rattle.std.proofs.Common.{◌≡◌, ℕ, zero, suc, ◌+◌, ◌-◌, ◌<◌, ◌≤◌, Bool, true, false, cond, not, ◌&&◌, ◌||◌, eqb, ltb, leb, ◌⊎◌, List, [], ◌∷◌, ◌++◌, map, length, get_or, take, Some, None, Ok, Err, vec_items, filter, Option, sym, refl, ap, ◌∙◌, subst, ap₂, subst₂, inl, inr, ⊎_elim, arith}
+use Rattle.std.proofs.Common.{◌≡◌, ℕ, zero, suc, ◌+◌, ◌-◌, ◌<◌, ◌≤◌, Bool, true, false, ◌&&◌, ltb, leb, ◌⊎◌, List, [], ◌∷◌, ◌++◌, map, length, take, Some, Ok, Err, vec_items, filter, sym, refl, ap, ◌∙◌, subst, ap₂, subst₂, inl, inr, ⊎_elim, arith}
 use mathlib.Core.List.Memᴰ
 use mathlib.Core.List.{map-append}
-use Rattle.judgments.proofs.Accessed.{received_weakened, held_weakened, opens_weakened, built_weakened}
-use Rattle.judgments.specs.Access.{Received, argument, first, second, unsealed, unlocked, Held, Opens, Opened, Built, basic, pairs, seals, locks, InRule, held, fresh, Begins, Owned}
+use Rattle.judgments.proofs.Accessed.{received_weakened, held_weakened, opens_weakened}
+use Rattle.judgments.specs.Access.{Held, Opened, Built, basic, pairs, seals, locks, InRule, held, fresh, Begins, Owned}
 use Rattle.judgments.specs.Contexts.{Ty, Decl, ◌∶◌, Context, ◌∈◌}
 use Rattle.judgments.specs.Rules.{arguments}
 use Rattle.judgments.specs.Rules as rules
 use Rattle.layouts.specs.Meanings.{Meaning}
 use Rattle.reading.proofs.Filled.{fill_here, fill_before}
 use Rattle.reading.proofs.Granting.{same_decides}
-use Rattle.reading.proofs.Shapes.{key, Shaped, shaped}
+use Rattle.reading.proofs.Shapes.{key, shaped}
 use Rattle.reading.specs.Openers.{reads_as}
 use Rattle.reading.specs.Scopes.{context}
 use Rattle.reading.specs.Told.{argument_rows, left_terms, Told}
 use Rattle.refusals.proofs.Deciding.{clash, decides_and, decides_as, decides_never, decides_always}
 use Rattle.refusals.proofs.Demanding.{first_demand, first_then}
 use Rattle.refusals.specs.Decides.{Decides}
-use Rattle.refusals.specs.Demands.{Lines, First, carried, lines}
-use Rattle.refusals.specs.Walks.{Answer, pass, demand, and_then, walk}
+use Rattle.refusals.specs.Demands.{Lines, First, lines}
+use Rattle.refusals.specs.Walks.{Answer, pass, and_then, walk}
 use Rattle.std.proofs.lemmas.List.{length-take-le}
-use Rattle.std.proofs.lemmas.Bool.{cases_Bool, cases_lt, and_parts, and_from, or_cases, or_left, or_right, ltb-true, leb-true, lt-ltb, le-leb}
+use Rattle.std.proofs.lemmas.Bool.{and_parts, and_from, or_cases, or_left, or_right, ltb-true, leb-true, lt-ltb, le-leb}
 use Rattle.std.specs.List.{slice_get}
 use Rattle.terms.proofs.Booked.{Earlier, earlier}
 use Rattle.terms.proofs.Numbered.{row_within, row_there, is_row_from, nth_within}
 use Rattle.terms.specs.Books.{is_book}
-use Rattle.terms.specs.Rows.{same_item, is_row}
+use Rattle.terms.specs.Rows.{is_row}
 use Rattle.terms.specs.Terms.{Term, item, pair, seal, lock}
 use Rattle.terms.specs.declared.row.Item.{Item}
 use Rattle.terms.specs.declared.row.Item.TheVariants.{Name, Variable}

@@ -1,7 +1,6 @@
 -- The scope that is put together is the context of the judgments.
-use Rattle.std.proofs.Common.{◌≡◌, ℕ, zero, suc, ◌+◌, ◌<◌, ◌⊎◌, List, [], ◌∷◌, ◌++◌, map, length, get_or, take, Some, None, sym, refl, ap, ◌∙◌, subst, ap₂, inl, inr, ⊎_elim, append_assoc, append-nil, arith}
+use Rattle.std.proofs.Common.{◌≡◌, ℕ, zero, suc, ◌+◌, ◌<◌, List, [], ◌∷◌, ◌++◌, map, length, get_or, take, Some, sym, refl, ap, ◌∙◌, subst, ap₂, ⊎_elim, append_assoc, arith}
 use mathlib.Core.List.Memᴰ
-use mathlib.Core.List.{map-append}
 use Rattle.judgments.specs.Contexts.{Decl, ◌∶◌, Context, ty, ◌∈◌}
 use Rattle.reading.specs.Scopes.{decl_of, context}
 use Rattle.reading.specs.declared.scope.Entry.{Entry}
@@ -17,10 +16,10 @@ use Rattle.theory.specs.declared.data.Ty.{Ty}
 use Rattle.theory.specs.declared.owner.Owner.{Owner}
 use Rattle.theory.specs.declared.owner.Owner.TheVariants.{Nobody, Generic, Anchored}
 use Rattle.types.proofs.Found.{declare_at, declare_cases, declare_kept, owner_kept}
-use Rattle.types.specs.Judged.{type_of, declare, name_decl, variable_decl, with_owner, context_of}
+use Rattle.types.specs.Judged.{declare, name_decl, variable_decl, with_owner, context_of}
 use Rattle.types.specs.Scopes.{a_principal}
 use Rattle.types.specs.Types.{items}
-use Rattle.access.specs.Scopes.{read_params, read_type, name_entry, owner_entries, variable_entry, variable_entries, rule_scope}
+use Rattle.access.specs.Scopes.{read_params, name_entry, owner_entries, variable_entry, variable_entries, rule_scope}
 
 -- ---- one turn of the loops that put it together
 pub names_more : (o : Owner) (before now : List Entry) (ds : List Declared) (i : ℕ) (d : Declared) (x : Entry) → i < length ds → x ≡ name_entry o (get_or ds i d) → now ≡ before ++ map (name_entry o) (take i ds) → now ++ x ∷ [] ≡ before ++ map (name_entry o) (take (i + 1) ds)

@@ -1,5 +1,5 @@
 -- What the table check sees to.
-use Rattle.std.proofs.Common.{◌≡◌, ℕ, ◌+◌, ◌≤◌, Bool, true, false, ◌&&◌, leb, List, [], ◌∷◌, ◌++◌, length, Ok, Err, vec_items, vec_len, sym, refl, ap, ◌∙◌, arith}
+use Rattle.std.proofs.Common.{◌≡◌, ℕ, ◌+◌, ◌≤◌, Bool, true, false, leb, List, [], ◌∷◌, ◌++◌, length, Ok, Err, vec_items, vec_len, refl, ap, ◌∙◌, arith}
 use mathlib.Core.List.Memᴰ
 use Rattle.judgments.specs.Contexts.{◌∈◌}
 use Rattle.refusals.proofs.Deciding.{clash}
@@ -13,11 +13,8 @@ use Rattle.theory.specs.Counts as counts
 use Rattle.theory.specs.Missing as missing
 use Rattle.theory.specs.declared.data.Fact.{Fact}
 use Rattle.theory.specs.declared.data.Role.{Role}
-use Rattle.theory.specs.declared.data.Rule.{Rule}
 use Rattle.theory.specs.declared.data.Theory.{Theory}
-use Rattle.theory.specs.declared.faults.TableFault.{TableFault}
-use Rattle.access.specs.Demands.{parts_of}
-use Rattle.access.specs.Tabled.{FactsThere, PartsTabled, RolesTabled}
+use Rattle.access.specs.Tabled.{FactsThere, RolesTabled}
 
 then_parts : {F G : Type 0} (up : F → G) (a : Answer F) (r : Answer G) → and_then up a r ≡ pass → (a ≡ pass) × (r ≡ pass)
 then_parts up (Ok u) r h = (refl, h)

@@ -1,5 +1,5 @@
 -- Which theories pass the access check.
-use Rattle.std.specs.Prelude.{List, [], vec_items}
+use Rattle.std.specs.Prelude.{[], vec_items}
 use Rattle.judgments.specs.Access.{RuleAllowed}
 use Rattle.judgments.specs.Contexts.{◌∈◌}
 use Rattle.layouts.specs.Meanings.{Meaning}

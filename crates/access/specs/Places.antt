@@ -1,5 +1,5 @@
 -- Where a rule is checked, and where its faults are told.
-use Rattle.std.specs.Prelude.{ℕ, ◌+◌, List, []}
+use Rattle.std.specs.Prelude.{ℕ, ◌+◌, []}
 use Rattle.terms.specs.Held.{rows_of}
 use Rattle.types.specs.Rules.{Place}
 use Rattle.access.specs.declared.faults.AccessFault.{AccessFault}

@@ -1,22 +1,19 @@
 -- The examples hold.
-use Rattle.std.proofs.Common.{◌≡◌, ℕ, zero, suc, ◌<◌, ◌≤◌, Bool, true, false, ◌||◌, eqb, ◌⊎◌, List, [], ◌∷◌, ◌++◌, sym, refl, ap, ◌∙◌, subst, subst₂, inl, inr, ⊎_elim, arith}
+use Rattle.std.proofs.Common.{◌≡◌, ℕ, Bool, true, false, ◌||◌, ◌⊎◌, List, [], ◌∷◌, ◌++◌, sym, refl, ap, ◌∙◌, subst, subst₂, inl, inr, ⊎_elim, arith}
 use mathlib.Core.List.Memᴰ
 use Rattle.judgments.proofs.Contexts.{not_zero, regular}
-use Rattle.judgments.specs.Access.{first_of, second_of, Above, Received, argument, first, second, unsealed, unlocked, Held, read, granted, Granted, Opens, Opened, Owned, Built, basic, pairs, seals, locks, InRule, held, fresh, RuleAllowed}
+use Rattle.judgments.specs.Access.{first_of, second_of, Above, Received, argument, first, second, unsealed, unlocked, Held, read, granted, Granted, Opens, Owned, Built, basic, pairs, seals, locks, InRule, held, fresh, RuleAllowed}
 use Rattle.judgments.specs.Contexts.{Ty, ty, msg, principal, Decl, ◌∶◌, Context, ◌∈◌}
-use Rattle.judgments.specs.Rules.{Fact, fact, network, Rule, arguments}
-use Rattle.judgments.specs.Theorems.{Regular}
-use Rattle.judgments.specs.Typing.{TypeFormed, New, Formed, Has, declared, sent, Key}
+use Rattle.judgments.specs.Typing.{TypeFormed, New, Formed, Has, declared, sent}
 use Rattle.layouts.specs.Codes.{item_code, code_of}
 use Rattle.layouts.specs.Report.{report}
-use Rattle.layouts.specs.declared.layout.Kind.TheVariants.{Locking}
 use Rattle.std.proofs.lemmas.Bool.{eq-eqb, or_left, or_right}
 use Rattle.terms.specs.Rows.{same_item}
 use Rattle.terms.specs.Terms.{Term, item, pair, seal, lock}
 use Rattle.terms.specs.declared.row.Item.{Item}
 use Rattle.terms.specs.declared.row.Item.TheVariants.{Name, Variable}
-use Rattle.examples.specs.Refused.{AllOwned, AllOpened, AllMakeable, AllBuilt, Refused, not_opened, not_built}
-use Rattle.examples.specs.Starred.{names, takes, a_message, with_key, sealed, locked, with_its_key, out_of_thin_air, Means, All, starred}
+use Rattle.examples.specs.Refused.{AllOwned, AllOpened, Refused, not_opened, not_built}
+use Rattle.examples.specs.Starred.{names, takes, a_message, with_key, sealed, locked, with_its_key, out_of_thin_air, All, starred}
 
 -- ---- the names are well formed: a test that computes
 declares : Item → Context → Bool

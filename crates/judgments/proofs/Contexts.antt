@@ -1,10 +1,10 @@
 -- What holds of a well-formed context, whatever the order of its declarations.
-use Rattle.std.proofs.Common.{◌≡◌, ℕ, zero, suc, ◌<◌, List, [], ◌∷◌, ◌++◌, sym, refl, ap, ◌∙◌, subst, arith}
+use Rattle.std.proofs.Common.{◌≡◌, ℕ, List, [], ◌∷◌, ◌++◌, subst, arith}
 use mathlib.Core.List.Memᴰ
 use Rattle.layouts.specs.Meanings.{Meaning}
 use Rattle.terms.specs.declared.row.Item.{Item}
 use Rattle.judgments.specs.Contexts.{Ty, ty, Decl, ◌∶◌, Context, ◌∈◌}
-use Rattle.judgments.specs.Typing.{Suit, TypeFormed, InRange, New, Formed}
+use Rattle.judgments.specs.Typing.{Suit, TypeFormed, InRange, Formed}
 use Rattle.judgments.specs.Theorems.{Regular, DeclaredOnce}
 
 pub not_zero : {A : Type 0} → ◌≡◌ {A = ℕ} 0 1 → A

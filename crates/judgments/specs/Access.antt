@@ -5,9 +5,9 @@ use Rattle.layouts.specs.Meanings.{Meaning}
 use Rattle.layouts.specs.declared.layout.Kind.TheVariants.{Locking}
 use Rattle.terms.specs.Terms.{Term, item, pair, seal, lock}
 use Rattle.terms.specs.declared.row.Item.{Item}
-use Rattle.judgments.specs.Contexts.{Ty, ty, Decl, ◌∶◌, Context, ◌∈◌}
+use Rattle.judgments.specs.Contexts.{Ty, ty, ◌∶◌, Context, ◌∈◌}
 use Rattle.judgments.specs.Typing.{Key}
-use Rattle.judgments.specs.Rules.{Predicate, network, memory, role, Fact, fact, Rule, arguments}
+use Rattle.judgments.specs.Rules.{network, memory, role, Fact, fact, Rule, arguments}
 
 abbrev pub first_of : List Item → Option Item
 first_of [] = None

@@ -1,11 +1,9 @@
 -- Which predicates are well formed.
 use Rattle.std.specs.Prelude.{◌≡◌, ℕ, ◌<◌, List, [], ◌∷◌, ◌++◌}
 use Rattle.layouts.specs.Meanings.{Meaning}
-use Rattle.terms.specs.Terms.{Term, item, pair, seal, lock}
 use Rattle.terms.specs.declared.row.Item.{Item}
-use Rattle.terms.specs.declared.row.Item.TheVariants.{Name, Variable}
-use Rattle.judgments.specs.Contexts.{Ty, ty, Decl, ◌∶◌, Context, ◌∈◌, At}
-use Rattle.judgments.specs.Substitutions.{Values, the_item, put, put_decl}
+use Rattle.terms.specs.declared.row.Item.TheVariants.{Name}
+use Rattle.judgments.specs.Contexts.{ty, ◌∶◌, Context, ◌∈◌, At}
 use Rattle.judgments.specs.Rules.{Place, named, place, Argument, of_type}
 
 -- the parameter is a declared name, or an earlier argument, of the family told

@@ -1,10 +1,10 @@
 -- Predicates, facts and rules, and their types.
 use Rattle.std.specs.Prelude.{◌≡◌, ℕ, zero, suc, List, [], ◌∷◌, ◌++◌, map}
 use Rattle.layouts.specs.Meanings.{Meaning}
-use Rattle.terms.specs.Terms.{Term, item, pair, seal, lock}
+use Rattle.terms.specs.Terms.{Term, item}
 use Rattle.terms.specs.declared.row.Item.{Item}
 use Rattle.terms.specs.declared.row.Item.TheVariants.{Name, Variable}
-use Rattle.judgments.specs.Contexts.{Ty, ty, Decl, ◌∶◌, Context, ◌∈◌, At}
+use Rattle.judgments.specs.Contexts.{Ty, ty, ◌∶◌, Context, ◌∈◌}
 use Rattle.judgments.specs.Substitutions.{Values, the_item, put, put_decl}
 use Rattle.judgments.specs.Typing.{Formed, Has}
 

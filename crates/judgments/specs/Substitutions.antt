@@ -1,5 +1,5 @@
 -- Terms put for variables.
-use Rattle.std.specs.Prelude.{ℕ, zero, suc, List, map}
+use Rattle.std.specs.Prelude.{ℕ, zero, suc, map}
 use Rattle.terms.specs.Terms.{Term, item, pair, seal, lock}
 use Rattle.terms.specs.declared.row.Item.{Item}
 use Rattle.terms.specs.declared.row.Item.TheVariants.{Name, Variable}

@@ -6,7 +6,7 @@ use Rattle.layouts.specs.declared.layout.Kind.TheVariants.{Sealing, Locking}
 use Rattle.terms.specs.Terms.{Term, item, pair, seal, lock}
 use Rattle.terms.specs.declared.row.Item.{Item}
 use Rattle.terms.specs.declared.row.Item.TheVariants.{Name, Variable}
-use Rattle.judgments.specs.Contexts.{Ty, ty, msg, Decl, ◌∶◌, Context, ◌∈◌}
+use Rattle.judgments.specs.Contexts.{Ty, ty, msg, ◌∶◌, Context, ◌∈◌}
 use Rattle.judgments.specs.Substitutions.{Values, value, put_type}
 
 -- The parameters are declared, each with the family told.

@@ -1,12 +1,12 @@
 -- The two layouts are lawful: their tables pass the test.
-use Rattle.std.specs.Prelude.{◌≡◌, true, refl}
+use Rattle.std.specs.Prelude.{refl}
 use Rattle.layouts.specs.Laws.{Lawful}
 use Rattle.layouts.specs.Report.{report_table, report}
 use Rattle.layouts.specs.KeyServer.{key_server_table, key_server}
 use Rattle.layouts.specs.Any.{meaning_of}
 use Rattle.layouts.specs.declared.any.AnyLayout.{AnyLayout}
 use Rattle.layouts.specs.declared.any.AnyLayout.TheVariants as any
-use Rattle.layouts.specs.Tabled.{is_lawful, table_lawful}
+use Rattle.layouts.specs.Tabled.{table_lawful}
 
 pub report_lawful : Lawful report
 report_lawful = table_lawful report_table refl

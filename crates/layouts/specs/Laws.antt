@@ -1,5 +1,5 @@
 -- The laws of layouts.
-use Rattle.std.specs.Prelude.{◌≡◌, ℕ, ◌<◌, ◌≤◌, true, false, List, [], ◌∷◌, length}
+use Rattle.std.specs.Prelude.{◌≡◌, ℕ, ◌<◌, ◌≤◌, true, false, [], ◌∷◌, length}
 use mathlib.Core.List.{Memᴰ}
 use Rattle.layouts.specs.Meanings.{Meaning}
 use Rattle.layouts.specs.declared.layout.Kind.TheVariants.{Plain, Locking}

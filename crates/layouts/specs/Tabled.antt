@@ -1,11 +1,10 @@
 -- A table that passes a computed test writes down a lawful layout.
-use Rattle.std.specs.Prelude.{◌≡◌, ℕ, zero, suc, ◌+◌, ◌<◌, ◌≤◌, Bool, true, false, ◌&&◌, ◌||◌, List, [], ◌∷◌, length, ◌==◌, nat_le, nat_lt, slice_index_or, refl}
-use Rattle.std.proofs.Common.{sym, ap, subst, ◌∙◌, ⊎_elim, arith, zero-add}
+use Rattle.std.specs.Prelude.{◌≡◌, ℕ, zero, suc, ◌+◌, ◌<◌, ◌≤◌, Bool, true, false, ◌&&◌, List, [], ◌∷◌, length, ◌==◌, nat_le, nat_lt, slice_index_or, refl}
+use Rattle.std.proofs.Common.{sym, ap, subst, ⊎_elim, arith, zero-add}
 use mathlib.Core.List.{Memᴰ}
 use Rattle.std.proofs.lemmas.List.{get_or_past}
 use Rattle.std.proofs.lemmas.Bool.{and_parts, or_cases, or_left, or_right, eqb-true, eq-eqb, ltb-true, leb-true}
-use Rattle.layouts.specs.Meanings.{Meaning}
-use Rattle.layouts.specs.Laws.{Lacked, Lawful}
+use Rattle.layouts.specs.Laws.{Lawful}
 use Rattle.layouts.specs.Tables.{Grant, nobody, everybody, first, either, of_first, Line, lacked, grants_by, line_at, meaning_by}
 use Rattle.layouts.specs.declared.layout.Kind.{Kind}
 use Rattle.layouts.specs.declared.layout.Kind.TheVariants.{Plain, Sealing, Locking}

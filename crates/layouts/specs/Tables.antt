@@ -1,8 +1,8 @@
 -- Layouts that are written down as tables, a line for each family.
-use Rattle.std.specs.Prelude.{ℕ, ◌+◌, Bool, true, false, ◌&&◌, ◌||◌, List, [], ◌∷◌, length, ◌==◌, slice_index_or}
+use Rattle.std.specs.Prelude.{ℕ, Bool, true, false, ◌||◌, List, [], length, ◌==◌, slice_index_or}
 use Rattle.layouts.specs.Meanings.{Meaning}
 use Rattle.layouts.specs.declared.layout.Kind.{Kind}
-use Rattle.layouts.specs.declared.layout.Kind.TheVariants.{Plain, Sealing, Locking}
+use Rattle.layouts.specs.declared.layout.Kind.TheVariants.{Plain}
 
 -- To whom the names of a family are granted: to nobody, to everybody, to the first parameter, to either parameter, or to the first parameter of the first.
 pub data Grant : Type 0 where

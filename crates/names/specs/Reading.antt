@@ -1,9 +1,9 @@
 -- What a list without repetitions says of the names in it.
-use Rattle.std.specs.Prelude.{◌≡◌, ℕ, zero, suc, ◌+◌, ◌<◌, ◌≤◌, Bool, true, false, cond, not, ◌&&◌, ◌||◌, List, [], ◌∷◌, ◌++◌, length, take, drop, Some, None, Option, ◌==◌, nat_le, nat_lt, slice_index, slice_index_or, refl}
+use Rattle.std.specs.Prelude.{◌≡◌, ℕ, zero, suc, ◌+◌, ◌<◌, ◌≤◌, true, false, cond, not, ◌&&◌, ◌||◌, List, [], ◌∷◌, ◌++◌, length, take, drop, Some, None, ◌==◌, nat_le, nat_lt, slice_index, slice_index_or, refl}
 use Rattle.std.proofs.Common.{sym, ap, subst, ◌∙◌, ⊎_elim, arith, rules}
-use Rattle.std.proofs.lemmas.List.{at_drop_more, at_drop_all, take_more, drop_more}
-use Rattle.std.proofs.lemmas.Bool.{cases_Bool, cases_eq, eq-eqb, ne_eqb, and_parts, and_from, or_parts, or_cases, not-true, ltb-true, leb-true, le-leb, lt-ltb, eqb-false, eqb-true, or_from, or_right, both_ways, not_from_false}
-use Rattle.names.specs.Sets.{listed, without, one_if, count_below, how_many}
+use Rattle.std.proofs.lemmas.List.{at_drop_more, take_more, drop_more}
+use Rattle.std.proofs.lemmas.Bool.{cases_eq, eq-eqb, ne_eqb, and_parts, and_from, or_parts, or_cases, not-true, ltb-true, leb-true, le-leb, lt-ltb, eqb-false, eqb-true, or_from, or_right, both_ways, not_from_false}
+use Rattle.names.specs.Sets.{listed, without, one_if, how_many}
 use Rattle.names.specs.Rolls.{once_each, first_unfit}
 use Rattle.names.specs.Counts.{count_same, count_none, count_without, without_other, without_itself}
 

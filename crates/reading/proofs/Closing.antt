@@ -1,5 +1,5 @@
 -- The marks that passes end with are exactly what is received.
-use Rattle.std.proofs.Common.{◌≡◌, ℕ, zero, suc, ◌+◌, ◌-◌, ◌<◌, ◌≤◌, Bool, true, false, cond, not, ◌&&◌, ◌||◌, eqb, ◌⊎◌, List, [], ◌∷◌, ◌++◌, map, length, get_or, take, set, replicate, Some, None, vec_items, filter, Option, sym, refl, ap, ◌∙◌, subst, ap₂, subst₂, inl, inr, ⊎_elim, arith}
+use Rattle.std.proofs.Common.{◌≡◌, ℕ, zero, suc, ◌+◌, ◌-◌, ◌<◌, ◌≤◌, Bool, true, false, cond, not, ◌&&◌, eqb, ◌⊎◌, List, [], ◌∷◌, ◌++◌, map, length, get_or, take, set, replicate, Some, None, vec_items, filter, Option, sym, refl, ap, ◌∙◌, subst, ap₂, subst₂, inl, inr, ⊎_elim, arith}
 use mathlib.Core.List.Memᴰ
 use Rattle.judgments.specs.Access.{Granted, Opens, Received, argument, first, second, unsealed, unlocked, Held, read, granted, Opened}
 use Rattle.judgments.specs.Contexts.{ty, ◌∶◌, Context, ◌∈◌}
@@ -9,13 +9,12 @@ use Rattle.layouts.specs.declared.layout.Kind.TheVariants.{Locking}
 use Rattle.refusals.proofs.Deciding.{clash, decides_and, decides_as, decides_never, decides_always}
 use Rattle.refusals.specs.Decides.{Decides}
 use Rattle.std.proofs.lemmas.List.{get_or-set_same, get_or-set_other, length-take-le, length-replicate, get_or-replicate, get_or_past}
-use Rattle.std.proofs.lemmas.Option.{slice_get_past}
-use Rattle.std.proofs.lemmas.Bool.{cases_Bool, cases_eq, cases_lt, eqb-true, eqb-false, ne_eqb, or_cases, or_left, or_right, and_from, lt-ltb, le-leb, both_ways}
+use Rattle.std.proofs.lemmas.Bool.{cases_Bool, cases_eq, cases_lt, eqb-false, ne_eqb, or_cases, or_left, or_right, and_from, lt-ltb, le-leb}
 use Rattle.std.specs.List.{slice_get}
 use Rattle.terms.proofs.Booked.{Earlier, earlier}
 use Rattle.terms.proofs.Numbered.{row_within, row_there, row_from_one, is_row_from}
 use Rattle.terms.specs.Books.{is_book}
-use Rattle.terms.specs.Rows.{same_item, is_row}
+use Rattle.terms.specs.Rows.{is_row}
 use Rattle.terms.specs.Terms.{Term, item, pair, seal, lock}
 use Rattle.terms.specs.declared.row.Item.{Item}
 use Rattle.terms.specs.declared.row.Row.{Row}
@@ -31,14 +30,14 @@ use Rattle.types.specs.Types.{items}
 use Rattle.reading.proofs.Filled.{fill_here, fill_long}
 use Rattle.reading.proofs.Granting.{same_decides, any_decides, entry_declared, declared_entry, granted_decides, locks_decides}
 use Rattle.reading.proofs.Growing.{Below, below_itself, below_then, below_length, below_at, below_put, below_pass, visit_same}
-use Rattle.reading.proofs.Lowest.{Low, lowest, lowest_same, lows_long}
-use Rattle.reading.proofs.Shapes.{key, Shaped, shaped}
+use Rattle.reading.proofs.Lowest.{lowest, lowest_same, lows_long}
+use Rattle.reading.proofs.Shapes.{key, shaped}
 use Rattle.reading.specs.Any.{any}
-use Rattle.reading.specs.Grants.{item_granted, row_granted, granted_by, granted_rows}
+use Rattle.reading.specs.Grants.{item_granted, granted_by, granted_rows}
 use Rattle.reading.specs.Lows.{lows}
-use Rattle.reading.specs.Marks.{Sight, opens_now, key_of, is_open, mark_row, put, opened_row, visit, pass_from, pass, Reaches, here, onward, Closed, put_all, put_facts, held_of, closed_of, held_by, closed_by, held_rows, closed_rows}
+use Rattle.reading.specs.Marks.{Sight, opens_now, is_open, mark_row, put, opened_row, visit, pass_from, pass, Reaches, here, onward, Closed, put_all, put_facts, held_of, closed_of, held_by, closed_by, held_rows, closed_rows}
 use Rattle.reading.specs.Openers.{locks_for, reads_as, row_of, opener_by, opener_of}
-use Rattle.reading.specs.Scopes.{decl_of, context}
+use Rattle.reading.specs.Scopes.{context}
 use Rattle.reading.specs.Told.{argument_rows, left_terms, Told}
 use Rattle.reading.specs.declared.openers.Opener.{Opener}
 use Rattle.reading.specs.declared.scope.Entry.{Entry}

@@ -1,8 +1,8 @@
 -- The tests on a scope decide what is granted, and what opens locks.
-use Rattle.std.proofs.Common.{◌≡◌, ℕ, Bool, true, false, ◌&&◌, ◌||◌, eqb, ◌⊎◌, List, [], ◌∷◌, map, Some, None, Option, sym, refl, ap, ◌∙◌, subst, inl, inr, ⊎_elim}
+use Rattle.std.proofs.Common.{◌≡◌, ℕ, Bool, true, List, [], ◌∷◌, sym, refl, ap, subst, ⊎_elim}
 use mathlib.Core.List.Memᴰ
 use Rattle.judgments.specs.Access.{first_of, second_of, Above, Granted}
-use Rattle.judgments.specs.Contexts.{Ty, ty, Decl, ◌∶◌, Context, ◌∈◌}
+use Rattle.judgments.specs.Contexts.{ty, Decl, ◌∶◌, ◌∈◌}
 use Rattle.judgments.specs.Typing.{Key}
 use Rattle.layouts.specs.Codes.{item_code, code_of}
 use Rattle.layouts.specs.Meanings.{Meaning}

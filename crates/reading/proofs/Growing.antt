@@ -1,13 +1,12 @@
 -- Marks only grow: no pass takes one off.
-use Rattle.std.proofs.Common.{◌≡◌, ℕ, zero, suc, ◌+◌, ◌-◌, ◌<◌, ◌≤◌, Bool, true, false, cond, eqb, ◌⊎◌, List, [], ◌∷◌, length, get_or, set, Some, None, Option, sym, refl, ap, ◌∙◌, subst, ap₂, inl, inr, ⊎_elim, arith}
+use Rattle.std.proofs.Common.{◌≡◌, ℕ, zero, suc, ◌-◌, ◌<◌, ◌≤◌, Bool, true, false, cond, eqb, ◌⊎◌, List, [], ◌∷◌, length, get_or, set, Some, None, Option, sym, refl, ap, ◌∙◌, subst, inl, inr, ⊎_elim, arith}
 use Rattle.std.proofs.lemmas.Bool.{cases_lt}
 use Rattle.terms.specs.Rows.{is_row}
 use Rattle.terms.specs.declared.row.Row.{Row}
 use Rattle.terms.specs.declared.row.Row.TheVariants as row
-use Rattle.theory.specs.declared.data.Fact.{Fact}
 use Rattle.refusals.proofs.Deciding.{clash}
 use Rattle.types.specs.Rows.{at, row_at}
-use Rattle.reading.specs.Marks.{Sight, is_open, mark_row, put, opened_row, visit, pass_from, pass, ons}
+use Rattle.reading.specs.Marks.{Sight, is_open, put, opened_row, visit, pass_from, ons}
 
 -- each mark of the first list is on in the second, which is as long
 abbrev pub Below : List Bool → List Bool → Type 0

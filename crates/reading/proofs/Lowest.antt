@@ -1,5 +1,5 @@
 -- The table of lowest rows is right: rows of one term have one lowest row, and it stands for that term.
-use Rattle.std.proofs.Common.{◌≡◌, ℕ, zero, suc, ◌+◌, ◌-◌, ◌<◌, ◌≤◌, Bool, true, false, cond, ◌&&◌, eqb, ◌⊎◌, List, [], ◌∷◌, ◌++◌, length, take, drop, Some, None, Option, unwrap_or, sym, refl, ap, ◌∙◌, subst, ap₂, inl, inr, ⊎_elim, arith}
+use Rattle.std.proofs.Common.{◌≡◌, ℕ, zero, suc, ◌+◌, ◌-◌, ◌<◌, ◌≤◌, true, false, ◌&&◌, eqb, List, [], ◌∷◌, ◌++◌, length, take, drop, Some, None, Option, unwrap_or, sym, refl, ap, ◌∙◌, subst, ap₂, ⊎_elim, arith}
 use Rattle.earliest.proofs.Firsts.{earliest_first}
 use Rattle.earliest.specs.Places.{earliest}
 use Rattle.refusals.proofs.Deciding.{clash}
@@ -22,7 +22,7 @@ use Rattle.types.proofs.Rowed.{row_at_push}
 use Rattle.types.specs.Facts.{item_in}
 use Rattle.types.specs.Rows.{at, row_at, term_at}
 use Rattle.reading.proofs.Filled.{at_push_before, at_push_last, split_at}
-use Rattle.reading.proofs.Shapes.{key, Shaped, shaped}
+use Rattle.reading.proofs.Shapes.{key, shaped}
 use Rattle.reading.specs.Lows.{reduced, lowered, lows}
 
 -- ---- equal rows

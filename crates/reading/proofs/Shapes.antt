@@ -1,5 +1,5 @@
 -- The terms that a book's rows stand for, by the kind of the row.
-use Rattle.std.proofs.Common.{◌≡◌, ℕ, ◌-◌, ◌<◌, ◌≤◌, true, List, [], length, take, Some, sym, refl, ap, ◌∙◌, ap₂, arith}
+use Rattle.std.proofs.Common.{◌≡◌, ℕ, ◌-◌, true, List, take, Some, sym, ap, ◌∙◌, ap₂, arith}
 use Rattle.judgments.specs.Substitutions.{the_item}
 use Rattle.terms.proofs.Booked.{Earlier, earlier}
 use Rattle.terms.proofs.Numbered.{row_within}

@@ -1,6 +1,6 @@
 -- One turn of the loops that look for an element, count marks, and fill tables.
-use Rattle.std.proofs.Common.{◌≡◌, ℕ, zero, suc, ◌+◌, ◌-◌, ◌<◌, ◌≤◌, Bool, true, false, cond, ◌||◌, List, [], ◌∷◌, ◌++◌, map, length, get_or, take, drop, set, sym, refl, ap, ◌∙◌, ap₂, arith}
-use Rattle.std.proofs.lemmas.List.{at_drop_more, at_drop_all, take_more, take_more_set, length-take-le, map_more}
+use Rattle.std.proofs.Common.{◌≡◌, ℕ, suc, ◌+◌, ◌-◌, ◌<◌, ◌≤◌, Bool, true, false, cond, ◌||◌, List, [], ◌∷◌, ◌++◌, map, length, get_or, take, drop, set, sym, ap, ◌∙◌, ap₂, arith}
+use Rattle.std.proofs.lemmas.List.{at_drop_more, at_drop_all, take_more_set, map_more}
 use Rattle.terms.specs.Adding.{number_in}
 use Rattle.terms.specs.declared.row.Item.{Item}
 use Rattle.terms.specs.declared.row.Row.{Row}

@@ -1,6 +1,7 @@
 //! What a rule's owner reads out of its left facts: which items the owner then holds, and which
 //! seals and locks stay closed.
 #![tactic(auto)]
+
 mod grants;
 pub mod left;
 mod lows;

@@ -1,11 +1,9 @@
 -- Words that a slice pattern or a text pattern took apart.
-use Rattle.std.proofs.Common.{◌≡◌, ℕ, ◌+◌, ◌-◌, ◌<◌, ◌≤◌, Bool, true, false, cond, eqb, List, [], ◌∷◌, map, length, get_or, take, drop, Some, None, codes, Option, sym, refl, ap, ◌∙◌, ⊎_elim, arith, Bor}
-use Rattle.std.specs.Option.{option_map}
+use Rattle.std.proofs.Common.{◌≡◌, ℕ, ◌-◌, ◌<◌, ◌≤◌, false, List, [], ◌∷◌, map, length, get_or, take, drop, Some, None, codes, Option, sym, refl, ap, ◌∙◌, ⊎_elim, arith, Bor}
 use Rattle.std.specs.Str.{bytes_eq}
 use Rattle.std.proofs.lemmas.Slice.Eq.{bytes_eq-Decides}
 use Rattle.std.proofs.lemmas.List.{take_all}
-use Rattle.std.proofs.lemmas.Bool.{cases_Bool, eqb-true, eqb-false}
-use Rattle.script.specs.Said as said
+use Rattle.std.proofs.lemmas.Bool.{cases_Bool}
 use Rattle.theory.specs.declared.data.Symbol.{Symbol}
 use Rattle.script.specs.Types.{both}
 use Rattle.script.specs.Facts.{SaidFact, symbol_of, fact_of}

@@ -1,5 +1,5 @@
 -- A line that is text, read by its words.
-use Rattle.std.proofs.Common.{◌≡◌, ℕ, false, ◌⊎◌, List, IsUtf8, Option, sym, ap, ◌∙◌, inl, inr, Bor}
+use Rattle.std.proofs.Common.{◌≡◌, ℕ, false, List, IsUtf8, Option, sym, ap, ◌∙◌, inl, inr, Bor}
 use Rattle.script.specs.Words.{words}
 use Rattle.script.specs.Lists.{Word}
 use Rattle.script.specs.Commands.{command_of}

@@ -1,5 +1,5 @@
 -- The numbers of a script: decimal digits and nothing else.
-use Rattle.std.specs.Prelude.{ℕ, ◌+◌, ◌-◌, ◌*◌, Bool, true, false, cond, ◌&&◌, List, [], ◌∷◌, Some, None, Option, nat_le}
+use Rattle.std.specs.Prelude.{ℕ, ◌+◌, ◌-◌, ◌*◌, Bool, false, cond, ◌&&◌, List, [], ◌∷◌, Some, None, Option, nat_le}
 use Rattle.std.specs.Str.{all_ascii_digits}
 
 -- The number that the digits write after those of n; the digit 0 is the byte 48.

@@ -1,8 +1,8 @@
 -- What a book says of the row with a number: its parts are earlier, its key is an item, and no other row equals it.
-use Rattle.std.proofs.Common.{◌≡◌, ℕ, zero, suc, ◌+◌, ◌-◌, ◌<◌, ◌≤◌, Bool, true, false, cond, not, ◌&&◌, List, [], ◌∷◌, length, get_or, take, is_some, is_ok, Some, None, Option, sym, refl, ap, ◌∙◌, subst, ⊎_elim, arith}
+use Rattle.std.proofs.Common.{◌≡◌, ℕ, ◌-◌, ◌<◌, ◌≤◌, Bool, true, false, not, ◌&&◌, List, [], length, get_or, take, is_some, is_ok, Some, None, Option, sym, refl, ◌∙◌, subst, ⊎_elim, arith}
 use Rattle.std.specs.List.{slice_get}
 use Rattle.std.proofs.lemmas.List.{length-take-le}
-use Rattle.std.proofs.lemmas.Bool.{and_parts, cases_Bool, not-true, cases_order}
+use Rattle.std.proofs.lemmas.Bool.{and_parts, not-true, cases_order}
 use Rattle.earliest.specs.Places.{earliest}
 use Rattle.earliest.proofs.Firsts.{earliest_first}
 use Rattle.refusals.specs.Tables.{decided}

@@ -1,10 +1,9 @@
 -- In a book each row stands for exactly one term, and no two rows for the same.
-use Rattle.std.proofs.Common.{◌≡◌, ℕ, zero, suc, ◌+◌, ◌-◌, ◌<◌, ◌≤◌, true, List, length, get_or, Some, Option, sym, refl, ap, ◌∙◌, subst, ap₂, arith}
+use Rattle.std.proofs.Common.{◌≡◌, ℕ, zero, suc, ◌-◌, ◌<◌, ◌≤◌, true, List, length, get_or, Some, subst, ap₂, arith}
 use Rattle.terms.specs.Rows.{row_at}
 use Rattle.terms.specs.Terms.{Term, item, pair, seal, lock}
 use Rattle.terms.specs.Books.{is_book}
 use Rattle.terms.specs.Standing.{Stands, an_item, a_pair, a_seal, a_lock, Exact}
-use Rattle.terms.specs.declared.row.Item.{Item}
 use Rattle.terms.specs.declared.row.Row.{Row}
 use Rattle.terms.specs.declared.row.Row.TheVariants as row
 use Rattle.terms.proofs.Numbered.{clash, row_there, is_row_from}

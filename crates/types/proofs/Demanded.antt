@@ -1,21 +1,19 @@
 -- The type check answers the first demand that is not met.
-use Rattle.std.proofs.Common.{◌≡◌, ℕ, ◌+◌, Bool, true, false, cond, ◌⊎◌, List, [], ◌∷◌, ◌++◌, map, length, Some, None, Ok, Err, vec_items, Option, sym, refl, ap, ◌∙◌, subst, ap₂, inl, inr, ⊎_elim, append-nil}
+use Rattle.std.proofs.Common.{◌≡◌, ℕ, ◌+◌, Bool, true, false, List, [], ◌∷◌, ◌++◌, map, length, Some, None, Ok, Err, vec_items, Option, refl, ap, inl, inr, append-nil}
 use Rattle.terms.specs.Held.{rows_of}
 use Rattle.layouts.specs.Meanings.{Meaning}
 use Rattle.layouts.specs.Laws.{Lawful}
 use Rattle.judgments.specs.Typing.{Formed, TypeFormed, AllKnown}
-use Rattle.judgments.specs.Predicates.{ArgumentsFormed, FirstPrincipal}
 use Rattle.judgments.proofs.Contexts.{not_zero}
-use Rattle.types.specs.Scopes.{Declarations}
 use Rattle.refusals.specs.Walks.{Answer, pass, demand, and_then, walk}
-use Rattle.types.specs.Judged.{type_of, context_of, argument_of}
+use Rattle.types.specs.Judged.{type_of, context_of}
 use Rattle.types.specs.Rows.{term_at}
 use Rattle.types.specs.Names.{names_only, name_check, at_name, names_check}
 use Rattle.types.specs.Predicates.{argument_formed, argument_check, same_place, arguments_formed, first_principal, predicate_check, at_spot, listed_check, predicates_check}
 use Rattle.types.specs.Facts.{ledger, arguments_check, fact_check}
 use Rattle.types.specs.Rules.{Place, over, same, variable_check, variables_check, predicate_at, a_message, listed_fact, symbol_check, fact_with, facts_check, rule_check}
 use Rattle.types.specs.Theories.{here, place_of, numbered_check, rules_check, anchor_check, role_at, placed_check, roles_check, theory_check}
-use Rattle.types.specs.Typed.{takes, signature, AnchorTyped}
+use Rattle.types.specs.Typed.{signature, AnchorTyped}
 use Rattle.refusals.specs.Demands.{Lines, First, carried, lines}
 use Rattle.types.specs.Demands.{refusal_of, numbered, name_lines, predicate_lines, argument_lines, listed_lines, found_lines, symbol_lines, fact_lines, facts_lines, variable_lines, variables_lines, rule_lines, predicates_lines, role_lines, fault_lines, theory_lines}
 use Rattle.refusals.proofs.Deciding.{decides_and, decides_same}

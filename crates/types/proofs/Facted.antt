@@ -1,25 +1,22 @@
 -- The check of a fact decides whether its terms agree with the argument types.
-use Rattle.std.proofs.Common.{◌≡◌, ℕ, zero, suc, ◌-◌, Bool, true, false, cond, ◌&&◌, eqb, ◌⊎◌, List, [], ◌∷◌, ◌++◌, map, length, get_or, is_some, Some, None, Option, sym, refl, ap, ◌∙◌, subst, ap₂, inl, inr, ⊎_elim, arith}
+use Rattle.std.proofs.Common.{◌≡◌, ℕ, zero, suc, ◌-◌, Bool, false, eqb, List, [], ◌∷◌, map, length, get_or, is_some, Option, sym, refl, ap, ◌∙◌, subst, ap₂, ⊎_elim, arith}
 use Rattle.std.proofs.lemmas.Bool.{cases_Bool}
 use Rattle.judgments.specs.Contexts.{◌∶◌, Context, ◌∈◌, msg}
-use Rattle.terms.specs.Terms.{Term, item, pair, seal, lock}
+use Rattle.terms.specs.Terms.{Term}
 use Rattle.layouts.specs.Meanings.{Meaning}
 use Rattle.judgments.specs.Typing.{Formed, Key, Has, declared, sent, pairs, seals, locks, Known, AllKnown}
 use Rattle.judgments.specs.Rules.{Agree, meant, named, place}
-use Rattle.judgments.proofs.Contexts.{not_zero}
 use Rattle.types.specs.Scopes.{Declarations, scope_type}
 use Rattle.types.specs.Types.{items}
 use Rattle.theory.specs.Owners.{item_of}
 use Rattle.types.specs.Judged.{type_of, context_of, slot_of, slot_list, argument_of}
-use Rattle.types.specs.Rows.{at, row_at, nothing, term_of, terms, term_at}
-use Rattle.types.specs.Messages.{declared_row, key_type, marks, has_type}
-use Rattle.refusals.specs.Walks.{Answer, pass, demand}
+use Rattle.types.specs.Rows.{at, row_at, nothing, term_of, term_at}
+use Rattle.types.specs.Messages.{key_type, marks, has_type}
 use Rattle.types.specs.Facts.{known_of, knowns, ledger, all_flags, item_in, slot_item, filled, argument_type, arguments_check, fact_check}
 use Rattle.refusals.specs.Decides.{Decides, Passes}
-use Rattle.refusals.proofs.Deciding.{decides_and, decides_same, decides_as, decides_always, demand_passes, passes_always, passes_as}
+use Rattle.refusals.proofs.Deciding.{decides_and, decides_same, decides_always, demand_passes, passes_always, passes_as}
 use Rattle.types.proofs.Rowed.{Stand, no_row, item_row, pair_row, seal_row, lock_row, Level, level, found_decides, key_decides, never_zero, messages, has_type_decides, at_zero, at_later}
 use Rattle.terms.specs.declared.row.Item.{Item}
-use Rattle.theory.specs.declared.data.Ty.{Ty}
 use Rattle.theory.specs.declared.owner.Owner.{Owner}
 use Rattle.terms.specs.declared.row.Row.{Row}
 use Rattle.theory.specs.declared.data.Slot.{Slot}

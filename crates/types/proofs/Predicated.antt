@@ -1,16 +1,14 @@
 -- The check of a predicate decides whether it is well formed.
-use Rattle.std.proofs.Common.{◌≡◌, ℕ, zero, suc, ◌-◌, Bool, true, false, cond, ◌&&◌, eqb, ◌⊎◌, List, [], ◌∷◌, ◌++◌, map, Some, None, vec_items, Option, sym, refl, ap, ◌∙◌, subst, ap₂, inl, inr, ⊎_elim}
+use Rattle.std.proofs.Common.{◌≡◌, ℕ, zero, suc, ◌-◌, false, eqb, List, [], ◌∷◌, ◌++◌, map, vec_items, refl, subst, ⊎_elim}
 use Rattle.std.specs.List.{slice_get}
 use Rattle.std.proofs.lemmas.Bool.{cases_Bool}
 use Rattle.std.proofs.lemmas.List.{map_push}
-use Rattle.judgments.specs.Contexts.{◌∶◌, Context, ◌∈◌, At, here, there}
+use Rattle.judgments.specs.Contexts.{At, here, there}
 use Rattle.layouts.specs.Meanings.{Meaning}
 use Rattle.judgments.specs.Typing.{Formed}
 use Rattle.judgments.specs.Predicates.{SlotSuits, SlotsSuit, ArgumentFormed, ArgumentsFormed, FirstPrincipal, PredicateFormed}
-use Rattle.judgments.proofs.Contexts.{not_zero}
 use Rattle.types.specs.Names.{names_only}
 use Rattle.types.specs.Judged.{slot_of, slot_list, argument_of}
-use Rattle.refusals.specs.Walks.{Answer, pass, demand, and_then, walk}
 use Rattle.types.specs.Predicates.{argument_is, slot_suited, slots_suited, argument_formed, argument_check, same_place, arguments_formed, first_principal, predicate_check, at_spot, listed_check, predicates_check}
 use Rattle.types.specs.Typed.{takes, signature, AllFormed}
 use Rattle.refusals.specs.Decides.{Decides, Passes}
@@ -23,7 +21,6 @@ use Rattle.theory.specs.declared.data.Slot.{Slot}
 use Rattle.theory.specs.declared.data.Argument.{Argument}
 use Rattle.theory.specs.declared.data.Predicate.{Predicate}
 use Rattle.types.specs.declared.faults.Ill.TheVariants.{Unformed, NoPrincipal}
-use Rattle.judgments.specs.Contexts as judge
 use Rattle.judgments.specs.Rules as rules
 use Rattle.theory.specs.declared.data.Slot.TheVariants as slot
 

@@ -1,7 +1,7 @@
 -- The marks on rows, and the test of a row's type, decide what the terms of the rows have.
-use Rattle.std.proofs.Common.{◌≡◌, ℕ, zero, suc, ◌+◌, ◌-◌, ◌<◌, ◌≤◌, Bool, true, false, cond, ◌&&◌, ◌||◌, eqb, ◌⊎◌, List, [], ◌∷◌, ◌++◌, map, length, get_or, Some, None, Option, sym, refl, ap, ◌∙◌, subst, ap₂, inl, inr, ⊎_elim, append_assoc, append-nil, arith}
+use Rattle.std.proofs.Common.{◌≡◌, ℕ, ◌+◌, ◌-◌, ◌<◌, ◌≤◌, Bool, true, false, cond, eqb, ◌⊎◌, List, [], ◌∷◌, ◌++◌, map, length, get_or, Some, None, Option, sym, refl, ap, ◌∙◌, ap₂, inl, inr, ⊎_elim, append_assoc, append-nil, arith}
 use Rattle.std.specs.List.{slice_get}
-use Rattle.std.proofs.lemmas.Bool.{cases_Bool, cases_lt, or_cases, or_left, or_right, eqb-true, eqb-false, eq-eqb}
+use Rattle.std.proofs.lemmas.Bool.{cases_Bool, cases_lt, or_cases, or_left, or_right, eqb-true, eqb-false}
 use Rattle.std.proofs.lemmas.List.{get_or_push, get_or_append_left, get_or_past, length_push}
 use Rattle.std.proofs.lemmas.Option.{slice_get_past}
 use Rattle.judgments.specs.Contexts.{◌∶◌, Context, ◌∈◌, msg}
@@ -9,7 +9,6 @@ use Rattle.terms.specs.Terms.{Term, item, pair, seal, lock}
 use Rattle.layouts.specs.Meanings.{Meaning}
 use Rattle.judgments.specs.Typing.{Formed, Key, Has, declared, sent, pairs, seals, locks}
 use Rattle.judgments.proofs.Contexts.{not_zero, regular}
-use Rattle.judgments.specs.Theorems.{Regular}
 use Rattle.types.specs.Scopes.{Declarations, scope_type}
 use Rattle.types.specs.Types.{items}
 use Rattle.theory.specs.Owners.{item_of}

@@ -1,21 +1,19 @@
 -- The check of a rule decides whether it has its types.
-use Rattle.std.proofs.Common.{◌≡◌, ℕ, zero, suc, ◌+◌, ◌<◌, Bool, true, false, cond, ◌⊎◌, List, [], ◌∷◌, ◌++◌, map, length, Some, None, Ok, Err, vec_items, Option, sym, refl, ap, ◌∙◌, subst, ap₂, inl, inr, ⊎_elim, append_assoc, append-nil, one-add, arith}
+use Rattle.std.proofs.Common.{◌≡◌, ℕ, zero, suc, ◌+◌, ◌<◌, List, [], ◌∷◌, ◌++◌, map, length, Some, None, vec_items, Option, sym, refl, ap, ◌∙◌, subst, ap₂, ⊎_elim, append_assoc, append-nil, arith}
 use mathlib.Core.List.Memᴰ
 use Rattle.std.specs.List.{slice_get}
 use Rattle.judgments.specs.Contexts.{◌∶◌, Context, Decl, ◌∈◌}
 use Rattle.layouts.specs.Meanings.{Meaning}
-use Rattle.judgments.specs.Typing.{TypeFormed, New, Formed}
+use Rattle.judgments.specs.Typing.{New, Formed}
 use Rattle.judgments.specs.Rules.{FactTyped, RuleTyped, Variables}
 use Rattle.judgments.proofs.Contexts.{not_zero, formed_below}
-use Rattle.types.specs.Judged.{type_of, declare, name_decl, variable_decl, with_owner, context_of, argument_of}
+use Rattle.types.specs.Judged.{declare, name_decl, variable_decl, with_owner, context_of, argument_of}
 use Rattle.types.specs.Rows.{term_at}
-use Rattle.types.specs.Types.{type_formed}
-use Rattle.refusals.specs.Walks.{Answer, pass, demand, and_then, walk}
-use Rattle.types.specs.Facts.{ledger, fact_check}
+use Rattle.types.specs.Facts.{ledger}
 use Rattle.types.specs.Predicates.{at_spot}
 use Rattle.types.specs.Rules.{Place, over, variable_check, variables_check, predicate_at, listed_fact, a_message, symbol_check, fact_with, facts_check, same, parts_check, rule_check}
 use Rattle.types.specs.Typed.{symbol_of, takes, table_of, fact_of, rule_of}
-use Rattle.refusals.specs.Decides.{Decides, Passes}
+use Rattle.refusals.specs.Decides.{Passes}
 use Rattle.refusals.proofs.Deciding.{demand_passes, passes_always, passes_as, then_passes, walk_passes, Each, walk_each}
 use Rattle.types.proofs.Found.{declare_cases}
 use Rattle.types.proofs.Signatures.{declare_push, type_formed_decides}
@@ -24,13 +22,11 @@ use Rattle.theory.specs.declared.data.Ty.{Ty}
 use Rattle.theory.specs.declared.data.Declared.{Declared}
 use Rattle.theory.specs.declared.owner.Owner.{Owner}
 use Rattle.theory.specs.declared.owner.Owner.TheVariants.{Nobody, Generic, Anchored}
-use Rattle.theory.specs.declared.data.Argument.{Argument}
 use Rattle.theory.specs.declared.data.Predicate.{Predicate}
 use Rattle.theory.specs.declared.data.Symbol.{Symbol}
 use Rattle.theory.specs.declared.data.Fact.{Fact}
 use Rattle.theory.specs.declared.data.Rule.{Rule}
-use Rattle.types.specs.declared.faults.Ill.{Ill}
-use Rattle.types.specs.declared.faults.Ill.TheVariants.{Unformed, Count}
+use Rattle.types.specs.declared.faults.Ill.TheVariants.{Unformed}
 use Rattle.terms.specs.Terms.{Term}
 use Rattle.terms.specs.declared.row.Item.TheVariants.{Variable}
 use Rattle.judgments.specs.Contexts as judge

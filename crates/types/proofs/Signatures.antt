@@ -1,29 +1,23 @@
 -- The signature's check decides whether its context is well formed.
-use Rattle.std.proofs.Common.{◌≡◌, ℕ, zero, suc, ◌+◌, ◌^◌, ◌<◌, Bool, true, false, cond, not, ◌&&◌, ◌||◌, eqb, ltb, ◌⊎◌, List, [], ◌∷◌, ◌++◌, map, length, is_some, Some, None, Ok, Err, Option, sym, refl, ap, ◌∙◌, subst, inl, inr, ⊎_elim, append_assoc, append-nil, arith}
+use Rattle.std.proofs.Common.{◌≡◌, ℕ, ◌+◌, true, not, List, [], ◌∷◌, ◌++◌, map, length, is_some, Some, None, Option, refl, arith}
 use Rattle.judgments.specs.Contexts.{◌∶◌, Context, Decl, ◌∈◌}
 use Rattle.layouts.specs.Meanings.{Meaning}
 use Rattle.judgments.specs.Typing.{Suit, TypeFormed, InRange, New, Formed}
 use Rattle.judgments.proofs.Contexts.{not_zero, regular}
-use Rattle.judgments.specs.Theorems.{Regular}
 use Rattle.types.specs.Scopes.{Declarations, type_in, scope_type}
 use Rattle.types.specs.Types.{has_family, suited, items, all_suited, type_formed}
-use Rattle.refusals.specs.Walks.{Answer, pass, walk}
-use Rattle.types.specs.Names.{names_only, in_range, free, name_check, at_name, names_check}
+use Rattle.types.specs.Names.{names_only, in_range, name_check, at_name, names_check}
 use Rattle.theory.specs.Owners.{item_of}
 use Rattle.types.specs.Judged.{type_of, declare, name_decl, context_of}
 use Rattle.refusals.specs.Decides.{Decides, Passes}
-use Rattle.refusals.proofs.Deciding.{decides_and, decides_lt, decides_same, decides_as, decides_never, decides_always, demand_passes, passes_always, passes_as, walk_passes}
+use Rattle.refusals.proofs.Deciding.{decides_and, decides_lt, decides_same, decides_never, decides_always, demand_passes, passes_always, passes_as, walk_passes}
 use Rattle.types.proofs.Found.{found_declared, declared_found}
 use Rattle.terms.specs.declared.row.Item.{Item}
-use Rattle.terms.specs.declared.row.Item.TheVariants.{Name, Variable}
+use Rattle.terms.specs.declared.row.Item.TheVariants.{Name}
 use Rattle.theory.specs.declared.data.Ty.{Ty}
 use Rattle.theory.specs.declared.data.Declared.{Declared}
-use Rattle.theory.specs.declared.owner.Owner.{Owner}
-use Rattle.theory.specs.declared.owner.Owner.TheVariants.{Nobody, Generic, Anchored}
-use Rattle.types.specs.declared.faults.Ill.{Ill}
+use Rattle.theory.specs.declared.owner.Owner.TheVariants.{Nobody}
 use Rattle.types.specs.declared.faults.Ill.TheVariants.{Taken, Unformed}
-use Rattle.types.specs.declared.faults.TypeFault.{TypeFault}
-use Rattle.terms.specs.Terms.{item}
 use Rattle.judgments.specs.Contexts as judge
 
 -- in a well-formed context what is found is all that is declared of an item

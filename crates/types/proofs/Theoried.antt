@@ -1,24 +1,22 @@
 -- The type check decides whether a theory has its types.
-use Rattle.std.proofs.Common.{◌≡◌, ℕ, zero, suc, ◌+◌, Bool, true, false, cond, eqb, ◌⊎◌, List, [], ◌∷◌, ◌++◌, map, length, Some, None, vec_items, Option, sym, refl, ap, ◌∙◌, subst, ap₂, inl, inr, ⊎_elim, arith}
+use Rattle.std.proofs.Common.{◌≡◌, ℕ, suc, ◌+◌, eqb, List, [], ◌∷◌, map, length, Some, None, vec_items, Option, sym, refl, ap, ◌∙◌, subst, ap₂, ⊎_elim}
 use Rattle.std.specs.List.{slice_get}
 use Rattle.terms.specs.Held.{rows_of}
 use Rattle.std.proofs.lemmas.Bool.{cases_Bool}
 use Rattle.judgments.specs.Contexts.{◌∶◌, Context, Decl, ◌∈◌}
 use Rattle.layouts.specs.Meanings.{Meaning}
 use Rattle.layouts.specs.Laws.{Lawful}
-use Rattle.judgments.specs.Typing.{Suit, TypeFormed, Formed}
-use Rattle.judgments.proofs.Contexts.{not_zero, regular}
-use Rattle.judgments.specs.Theorems.{Regular}
+use Rattle.judgments.specs.Typing.{Suit, Formed}
+use Rattle.judgments.proofs.Contexts.{regular}
 use Rattle.types.specs.Types.{items}
 use Rattle.types.specs.Names.{names_only, names_check}
 use Rattle.theory.specs.Owners.{item_of, owner_of}
-use Rattle.types.specs.Judged.{type_of, declare, name_decl, context_of}
-use Rattle.refusals.specs.Walks.{Answer, pass, demand, and_then, walk}
+use Rattle.types.specs.Judged.{declare, name_decl, context_of}
 use Rattle.types.specs.Predicates.{predicates_check}
-use Rattle.types.specs.Rules.{Place, over, same, rule_check}
-use Rattle.types.specs.Theories.{here, numbered, numbered_check, rules_check, anchor_check, place_of, role_check, role_at, placed_check, roles_check, tables_check, theory_check}
-use Rattle.types.specs.Typed.{signature, AnchorTyped, AllFormed, RuleTypedIn, RoleTyped, TheoryTyped}
-use Rattle.refusals.specs.Decides.{Decides, Passes}
+use Rattle.types.specs.Rules.{same}
+use Rattle.types.specs.Theories.{here, numbered, numbered_check, rules_check, anchor_check, place_of, role_at, placed_check, tables_check, theory_check}
+use Rattle.types.specs.Typed.{signature, AnchorTyped, RuleTypedIn, RoleTyped, TheoryTyped}
+use Rattle.refusals.specs.Decides.{Passes}
 use Rattle.refusals.proofs.Deciding.{demand_passes, passes_always, passes_as, then_passes, walk_members}
 use Rattle.types.proofs.Found.{declare_at}
 use Rattle.types.proofs.Signatures.{suited_decides, names_judged}
@@ -26,7 +24,6 @@ use Rattle.types.proofs.Ruled.{no_name, rule_passes}
 use Rattle.types.proofs.Predicated.{predicates_pass}
 use Rattle.terms.specs.declared.row.Item.{Item}
 use Rattle.terms.specs.declared.row.Item.TheVariants.{Name, Variable}
-use Rattle.theory.specs.declared.data.Ty.{Ty}
 use Rattle.terms.specs.declared.row.Row.{Row}
 use Rattle.theory.specs.declared.data.Declared.{Declared}
 use Rattle.theory.specs.declared.owner.Owner.{Owner}

@@ -1,8 +1,8 @@
 -- One turn of the loops that look up names, mark rows and check arguments.
-use Rattle.std.proofs.Common.{◌≡◌, ℕ, ◌+◌, ◌<◌, ◌≤◌, Bool, true, false, cond, ◌&&◌, eqb, List, [], ◌∷◌, ◌++◌, length, get_or, take, drop, set, Some, None, Ok, Err, Option, Result, sym, refl, ap, ◌∙◌, arith}
-use Rattle.std.proofs.lemmas.List.{at_drop_more, at_drop_all, take_more, take_more_set, length-take-le}
+use Rattle.std.proofs.Common.{◌≡◌, ℕ, ◌+◌, ◌<◌, ◌≤◌, Bool, true, false, cond, ◌&&◌, eqb, List, [], ◌∷◌, ◌++◌, length, get_or, take, drop, set, Some, None, Ok, Err, sym, ap, ◌∙◌}
+use Rattle.std.proofs.lemmas.List.{at_drop_more, at_drop_all, take_more, take_more_set}
 use Rattle.std.proofs.lemmas.Bool.{ne_eqb, and_left}
-use Rattle.refusals.specs.Walks.{Answer, pass, demand}
+use Rattle.refusals.specs.Walks.{Answer, demand}
 use Rattle.types.specs.Scopes.{Declarations, type_in}
 use Rattle.theory.specs.declared.data.Declared.{Declared}
 use Rattle.theory.specs.declared.data.Ty.{Ty}

@@ -10,9 +10,9 @@ use Rattle.judgments.specs.Predicates.{ArgumentsFormed, FirstPrincipal}
 use Rattle.refusals.specs.declared.Refusal.{Refusal}
 use Rattle.refusals.specs.Walks.{Answer}
 use Rattle.refusals.specs.Demands.{Lines, carried, lines}
-use Rattle.types.specs.Judged.{type_of, context_of, slot_of, slot_list, argument_of}
+use Rattle.types.specs.Judged.{type_of, context_of, slot_of, slot_list}
 use Rattle.types.specs.Rows.{term_at}
-use Rattle.types.specs.Names.{names_only, at_name}
+use Rattle.types.specs.Names.{at_name}
 use Rattle.types.specs.Predicates.{at_spot}
 use Rattle.types.specs.Rules.{Place, over, predicate_at, a_message, same}
 use Rattle.types.specs.Theories.{here, place_of}

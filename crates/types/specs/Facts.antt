@@ -1,12 +1,12 @@
 -- The check of one fact.
-use Rattle.std.specs.Prelude.{ℕ, Bool, true, false, cond, ◌&&◌, List, [], ◌∷◌, length, is_some, Some, None, Option, ◌==◌}
+use Rattle.std.specs.Prelude.{ℕ, Bool, true, false, ◌&&◌, List, [], ◌∷◌, length, is_some, Some, None, Option, ◌==◌}
 use Rattle.layouts.specs.Meanings.{Meaning}
 use Rattle.types.specs.Scopes.{Declarations, scope_type}
 use Rattle.types.specs.Rows.{at, row_at, fill}
 use Rattle.types.specs.Messages.{key_type, marks, has_type}
 use Rattle.refusals.specs.Walks.{Answer, pass, demand}
 use Rattle.terms.specs.declared.row.Item.{Item}
-use Rattle.terms.specs.declared.row.Item.TheVariants.{Name, Variable}
+use Rattle.terms.specs.declared.row.Item.TheVariants.{Name}
 use Rattle.theory.specs.declared.data.Params.{Params}
 use Rattle.theory.specs.declared.data.Ty.{Ty}
 use Rattle.terms.specs.declared.row.Row.{Row}

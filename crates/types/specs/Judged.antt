@@ -13,7 +13,6 @@ use Rattle.theory.specs.declared.data.Slots.{Slots}
 use Rattle.theory.specs.declared.data.Argument.{Argument}
 use Rattle.theory.specs.declared.owner.Owner.{Owner}
 use Rattle.theory.specs.declared.owner.Owner.TheVariants.{Nobody, Generic, Anchored}
-use Rattle.terms.specs.Terms.{item}
 use Rattle.judgments.specs.Contexts as judge
 use Rattle.judgments.specs.Rules as rules
 use Rattle.theory.specs.declared.data.Slot.TheVariants as slot

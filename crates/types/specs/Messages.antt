@@ -6,16 +6,12 @@ use Rattle.types.specs.Types.{items}
 use Rattle.theory.specs.Owners.{item_of}
 use Rattle.types.specs.Rows.{at, row_at, fill}
 use Rattle.terms.specs.declared.row.Item.{Item}
-use Rattle.theory.specs.declared.data.Params.{Params}
-use Rattle.theory.specs.declared.data.Params.TheVariants.{Zero, One, Two}
 use Rattle.theory.specs.declared.data.Ty.{Ty}
 use Rattle.theory.specs.declared.owner.Owner.{Owner}
 use Rattle.terms.specs.declared.row.Row.{Row}
 use Rattle.terms.specs.declared.row.Item.TheVariants.{Name, Variable}
-use Rattle.terms.specs.Terms.{item}
 use Rattle.layouts.specs.declared.layout.Kind.{Kind}
 use Rattle.layouts.specs.declared.layout.Kind.TheVariants.{Plain, Sealing, Locking}
-use Rattle.judgments.specs.Contexts as judge
 use Rattle.terms.specs.declared.row.Row.TheVariants as row
 
 abbrev pub none : List Item → Bool

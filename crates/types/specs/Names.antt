@@ -1,5 +1,5 @@
 -- The check of the signature.
-use Rattle.std.specs.Prelude.{ℕ, ◌^◌, Bool, not, ◌&&◌, List, [], ◌∷◌, is_some, nat_lt}
+use Rattle.std.specs.Prelude.{ℕ, Bool, not, ◌&&◌, List, [], is_some, nat_lt}
 use Rattle.layouts.specs.Meanings.{Meaning}
 use Rattle.types.specs.Scopes.{Declarations, type_in}
 use Rattle.types.specs.Types.{type_formed}

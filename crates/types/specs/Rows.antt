@@ -1,5 +1,5 @@
 -- Rows by their numbers, and what is worked out row by row.
-use Rattle.std.specs.Prelude.{ℕ, ◌-◌, Bool, cond, List, [], ◌∷◌, ◌++◌, Some, None, Option, ◌==◌, slice_index_or}
+use Rattle.std.specs.Prelude.{ℕ, ◌-◌, cond, List, [], ◌∷◌, ◌++◌, None, Option, ◌==◌, slice_index_or}
 use Rattle.std.specs.List.{slice_get}
 use Rattle.terms.specs.Terms.{Term, item, pair, seal, lock}
 use Rattle.theory.specs.Owners.{item_of}
@@ -7,7 +7,6 @@ use Rattle.theory.specs.declared.owner.Owner.{Owner}
 use Rattle.terms.specs.declared.row.Row.{Row}
 use Rattle.judgments.specs.Substitutions.{the_item}
 use Rattle.terms.specs.declared.row.Item.TheVariants.{Name}
-use Rattle.judgments.specs.Contexts as judge
 use Rattle.terms.specs.declared.row.Row.TheVariants as row
 
 -- what has the number, counted from 1

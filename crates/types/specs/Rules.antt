@@ -1,5 +1,5 @@
 -- The check of a rule.
-use Rattle.std.specs.Prelude.{ℕ, ◌-◌, Bool, cond, List, [], ◌∷◌, ◌++◌, length, Some, None, Err, vec_items, Option, ◌==◌}
+use Rattle.std.specs.Prelude.{ℕ, ◌-◌, cond, List, [], ◌∷◌, ◌++◌, length, Some, None, Err, vec_items, Option, ◌==◌}
 use Rattle.std.specs.List.{slice_get}
 use Rattle.layouts.specs.Meanings.{Meaning}
 use Rattle.types.specs.Scopes.{Declarations}

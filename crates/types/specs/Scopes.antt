@@ -1,10 +1,9 @@
 -- What is declared at a point of a theory: the items with their types.
-use Rattle.std.specs.Prelude.{ℕ, ◌-◌, Bool, cond, List, [], ◌∷◌, ◌++◌, Some, None, Option, ◌==◌}
+use Rattle.std.specs.Prelude.{ℕ, ◌-◌, cond, List, [], ◌∷◌, ◌++◌, Some, None, Option, ◌==◌}
 use Rattle.std.specs.List.{slice_get}
 use Rattle.terms.specs.declared.row.Item.{Item}
 use Rattle.terms.specs.declared.row.Item.TheVariants.{Name, Variable}
-use Rattle.theory.specs.declared.data.Params.{Params}
-use Rattle.theory.specs.declared.data.Params.TheVariants.{Zero, One, Two}
+use Rattle.theory.specs.declared.data.Params.TheVariants.{Zero}
 use Rattle.theory.specs.declared.data.Ty.{Ty}
 use Rattle.theory.specs.declared.data.Declared.{Declared}
 use Rattle.theory.specs.declared.owner.Owner.{Owner}

@@ -1,5 +1,5 @@
 -- The type check of a theory: the signature, the memory predicates, then role after role.
-use Rattle.std.specs.Prelude.{ℕ, ◌+◌, ◌^◌, ◌<◌, ◌≤◌, Bool, List, [], ◌∷◌, length, Some, None, vec_items, vec_len, Option}
+use Rattle.std.specs.Prelude.{ℕ, ◌+◌, ◌^◌, ◌<◌, ◌≤◌, List, [], length, Some, None, vec_items, vec_len, Option}
 use Rattle.terms.specs.Held.{rows_of}
 use Rattle.layouts.specs.Meanings.{Meaning}
 use Rattle.judgments.specs.Contexts.{◌∈◌}

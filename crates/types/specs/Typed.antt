@@ -1,5 +1,5 @@
 -- What predicates, facts and rules stand for in the judgments.
-use Rattle.std.specs.Prelude.{◌≡◌, ℕ, ◌+◌, List, [], ◌∷◌, ◌++◌, map, length, Some, None, vec_items, Option}
+use Rattle.std.specs.Prelude.{◌≡◌, ℕ, ◌+◌, List, [], ◌∷◌, map, length, Some, None, vec_items, Option}
 use Rattle.terms.specs.Held.{rows_of}
 use Rattle.judgments.specs.Contexts.{◌∶◌, Context, ◌∈◌}
 use Rattle.layouts.specs.Meanings.{Meaning}

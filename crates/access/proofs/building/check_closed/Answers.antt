@@ -1,4 +1,4 @@
-use Rattle.std.proofs.Common.{◌≡◌, ◌<◌, ◌≤◌, length, sym, ap, ◌∙◌, subst}
+use Rattle.std.proofs.Common.{◌<◌, ◌≤◌, length, sym, ◌∙◌, subst}
 use Rattle.refusals.proofs.Walking.{walk_none}
 use Rattle.access.specs.Places.{setting_of, at_rule}
 use Rattle.access.specs.Tests.{closed_check}

@@ -1,4 +1,4 @@
-use Rattle.std.proofs.Common.{◌≡◌, length, sym, ap, ◌∙◌, subst, ap₂, subst₂, arith}
+use Rattle.std.proofs.Common.{length, sym, subst, subst₂, arith}
 use Rattle.refusals.specs.Demands.{First}
 use Rattle.terms.specs.Held.{rows_of}
 use Rattle.access.specs.Demands.{roles_lines}

@@ -1,4 +1,4 @@
-use Rattle.std.proofs.Common.{◌≡◌, ◌<◌, length, sym, ap, ◌∙◌, rules}
+use Rattle.std.proofs.Common.{◌<◌, length, sym, ◌∙◌, rules}
 use Rattle.terms.specs.Held.{rows_of}
 use Rattle.access.proofs.Apart.{taken_apart, begins_with}
 use Rattle.access.proofs.owners.after_owner.Goals as goal

@@ -1,4 +1,4 @@
-use Rattle.std.proofs.Common.{◌≡◌, ◌-◌, length, take, sym, ap, ◌∙◌, arith}
+use Rattle.std.proofs.Common.{◌≡◌, ◌-◌, length, take, ap, ◌∙◌, arith}
 use Rattle.access.specs.Places.{setting_of}
 use Rattle.access.specs.Tests.{can_rows, all_built_check}
 use Rattle.access.proofs.Ruling.{passed_both}

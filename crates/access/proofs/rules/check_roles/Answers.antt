@@ -1,4 +1,4 @@
-use Rattle.std.proofs.Common.{◌≡◌, ℕ, ◌+◌, List, [], length, Ok, Err, vec_items, sym, ap, ◌∙◌, subst, ap₂}
+use Rattle.std.proofs.Common.{◌≡◌, ℕ, ◌+◌, List, [], length, Ok, Err, vec_items, sym, ap, ◌∙◌, subst}
 use Rattle.refusals.specs.Demands.{First}
 use Rattle.refusals.specs.Walks.{Answer}
 use Rattle.std.proofs.lemmas.Result.{err_from_is_err_and}
@@ -10,7 +10,6 @@ use Rattle.theory.specs.declared.data.Declared.{Declared}
 use Rattle.theory.specs.declared.data.Role.{Role}
 use Rattle.theory.specs.declared.data.Rule.{Rule}
 use Rattle.theory.specs.declared.owner.Owner.{Owner}
-use Rattle.types.specs.Rules.{Place}
 use Rattle.access.specs.Demands.{rules_lines, role_lines, roles_lines}
 use Rattle.access.specs.Tabled.{RulesTabled}
 use Rattle.access.specs.declared.faults.AccessFault.{AccessFault}

@@ -1,7 +1,7 @@
-use Rattle.std.proofs.Common.{◌≡◌, length, sym, subst}
+use Rattle.std.proofs.Common.{length, sym, subst}
 use Rattle.refusals.specs.Demands.{First}
 use Rattle.terms.specs.Held.{rows_of}
-use Rattle.access.specs.Demands.{Parts, parts_lines}
+use Rattle.access.specs.Demands.{parts_lines}
 use Rattle.access.specs.Places.{setting_of}
 use Rattle.access.specs.Tabled.{PartsTabled}
 use Rattle.access.proofs.Ruling.{parts_same}

@@ -1,5 +1,5 @@
-use Rattle.std.proofs.Common.{◌≡◌, ◌+◌, List, length, Ok, Err, sym, ap, ◌∙◌, subst}
-use Rattle.refusals.specs.Demands.{Lines, First}
+use Rattle.std.proofs.Common.{◌+◌, length, Ok, Err, sym, ap, ◌∙◌, subst}
+use Rattle.refusals.specs.Demands.{First}
 use Rattle.std.proofs.lemmas.Result.{err_from_is_err_and}
 use Rattle.types.specs.Theories.{numbered}
 use Rattle.access.specs.Demands.{rule_lines, rules_lines}

@@ -1,4 +1,4 @@
-use Rattle.std.proofs.Common.{◌≡◌, ◌+◌, ◌-◌, ◌<◌, not, ◌&&◌, length, get_or, take, drop, arith, rules}
+use Rattle.std.proofs.Common.{◌≡◌, ◌+◌, ◌-◌, ◌<◌, not, ◌&&◌, length, get_or, take, drop, rules}
 use Rattle.names.specs.Sets.{listed, one_if}
 use Rattle.names.specs.Withheld.{hidden}
 use Rattle.names.proofs.Slices.{taken_apart, none_there}

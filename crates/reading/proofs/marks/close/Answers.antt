@@ -1,4 +1,4 @@
-use Rattle.std.proofs.Common.{◌≡◌, ◌<◌, ◌≤◌, length, sym, ap, ◌∙◌, subst, arith}
+use Rattle.std.proofs.Common.{◌≡◌, ◌≤◌, length, sym, ap, ◌∙◌, subst, arith}
 use Rattle.reading.specs.Marks.{sight_of, Reaches, here, onward, pass, ons}
 use Rattle.reading.proofs.Growing.{Below, below_pass, below_same, below_ons, below_length, ons_length}
 use Rattle.reading.proofs.marks.close.Goals as goal

@@ -1,4 +1,4 @@
-use Rattle.std.proofs.Common.{◌≡◌, ◌+◌, ◌≤◌, drop, sym, subst, arith}
+use Rattle.std.proofs.Common.{◌≡◌, ◌+◌, drop, sym, subst, arith}
 use Rattle.reading.specs.Marks.{ons}
 use Rattle.reading.proofs.Turns.{ons_yes, ons_no, ons_all}
 use Rattle.reading.proofs.marks.count.Goals as goal

@@ -1,5 +1,5 @@
 use Rattle.std.proofs.Common.{sym, ◌∙◌}
-use Rattle.reading.specs.Marks.{sight_of, opens_now}
+use Rattle.reading.specs.Marks.{opens_now}
 use Rattle.reading.proofs.Turns.{any_here, any_later, any_none}
 use Rattle.reading.proofs.marks.is_unlocked.Goals as goal
 

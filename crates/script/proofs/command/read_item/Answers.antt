@@ -1,4 +1,3 @@
-use Rattle.std.proofs.Common.{rules}
 use Rattle.script.proofs.Matching.{unlike}
 use Rattle.script.proofs.command.read_item.Goals as goal
 

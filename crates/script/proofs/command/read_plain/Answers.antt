@@ -1,10 +1,6 @@
-use Rattle.std.proofs.Common.{◌≡◌, ◌≤◌, false, cond, length, None, codes, sym, ap, ◌∙◌, rules}
-use Rattle.std.specs.Str.{bytes_eq}
-use Rattle.std.specs.Option.{option_map}
-use Rattle.std.proofs.lemmas.Bool.{false≢true}
-use Rattle.script.specs.Said as said
-use Rattle.script.specs.Commands.{row_of, plain_of}
-use Rattle.script.proofs.Matching.{told, one_word, no_words, more_words, unlike}
+use Rattle.std.proofs.Common.{◌≡◌, ◌≤◌, length, sym, ap, ◌∙◌, rules}
+use Rattle.script.specs.Commands.{plain_of}
+use Rattle.script.proofs.Matching.{one_word, no_words, more_words}
 use Rattle.script.proofs.command.read_plain.Goals as goal
 
 pub returns-in-empty : goal.returns-in-empty

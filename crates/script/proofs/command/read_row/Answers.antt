@@ -1,4 +1,4 @@
-use Rattle.std.proofs.Common.{◌≡◌, length, sym, ap, ◌∙◌, arith, rules}
+use Rattle.std.proofs.Common.{◌≡◌, length, sym, ap, ◌∙◌, rules}
 use Rattle.script.specs.Commands.{row_of}
 use Rattle.script.proofs.Matching.{two_words, three_words, no_row}
 use Rattle.script.proofs.command.read_row.Goals as goal

@@ -1,6 +1,6 @@
-use Rattle.std.proofs.Common.{◌≡◌, ◌<◌, ◌≤◌, length, Some, None, vec_items, sym, ap, ◌∙◌, rules}
+use Rattle.std.proofs.Common.{◌<◌, ◌≤◌, length, Some, None, vec_items, sym, ap, ◌∙◌, rules}
 use Rattle.std.specs.Option.{option_map}
-use Rattle.script.proofs.Matching.{no_fact, fact_found, no_symbol}
+use Rattle.script.proofs.Matching.{no_fact, fact_found}
 use Rattle.script.proofs.facts.read_fact.Goals as goal
 
 pub returns-in_default : goal.returns-in_default

@@ -1,4 +1,4 @@
-use Rattle.std.proofs.Common.{◌+◌, drop, vec_items, ap, ◌∙◌, rules}
+use Rattle.std.proofs.Common.{◌+◌, drop, vec_items, ap, ◌∙◌}
 use Rattle.script.specs.Lists.{all_of}
 use Rattle.script.proofs.Matching.{told}
 use Rattle.script.proofs.Listing.{joined, list_more, list_broken, list_all}

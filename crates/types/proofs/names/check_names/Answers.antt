@@ -1,6 +1,4 @@
-use Rattle.std.proofs.Common.{◌≡◌, List, sym, ◌∙◌, rules}
-use Rattle.layouts.specs.Meanings.{Meaning}
-use Rattle.refusals.specs.Walks.{Answer}
+use Rattle.std.proofs.Common.{sym, ◌∙◌, rules}
 use Rattle.types.specs.Names.{name_check, at_name}
 use Rattle.refusals.proofs.Walking.{walk_here, walk_later, walk_none}
 use Rattle.refusals.proofs.Deciding.{passes_same}

@@ -1,4 +1,4 @@
-use Rattle.std.proofs.Common.{◌≡◌, ◌+◌, ◌≤◌, vec_items, sym, ◌∙◌, arith, rules}
+use Rattle.std.proofs.Common.{◌≡◌, ◌+◌, ◌≤◌, vec_items, ◌∙◌, arith, rules}
 use Rattle.names.specs.Sets.{how_many, minus}
 use Rattle.names.specs.Withheld.{hidden}
 use Rattle.names.specs.Counts.{how_many_minus, count_le, leb_iff}

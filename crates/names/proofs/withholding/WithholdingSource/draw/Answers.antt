@@ -1,6 +1,6 @@
 use Rattle.std.proofs.Common.{◌≡◌, true, false, Some, None, vec_items, sym, ap, ◌∙◌, arith, rules}
 use Rattle.names.specs.Sets.{listed}
-use Rattle.names.specs.Withheld.{FirstKept, ended, kept, skipped}
+use Rattle.names.specs.Withheld.{ended, kept, skipped}
 use Rattle.names.specs.Counts.{drawn_fewer, minus_skipped}
 use Rattle.names.proofs.withholding.WithholdingSource.draw.Goals as goal
 
