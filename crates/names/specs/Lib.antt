@@ -10,4 +10,4 @@ pub mod Layered
 pub mod Any
 pub mod Reading
 pub mod Counts
-pub mod AnySourceSourceLemmas
+pub mod InRange

@@ -1,6 +1,6 @@
 ghost use Rattle.std.specs.Prelude.{◌≡◌};
 ghost use Rattle.names.specs.Any.{view_of, ahead_in, Steps, Loads};
-ghost use Rattle.names.specs.AnySourceSourceLemmas.{names_in_range};
+ghost use Rattle.names.specs.InRange.{names_in_range};
 
 use crate::counter::Counter;
 use crate::faults::ListFault;

@@ -2,7 +2,7 @@ ghost use Rattle.std.specs.Prelude.{◌≡◌, ◌<◌, ◌≤◌, max, Bool};
 ghost use Rattle.names.specs.Sets.{how_many};
 ghost use Rattle.names.specs.Draws.{Drawn};
 ghost use Rattle.names.specs.Counting.{from_next, Counts};
-ghost use Rattle.std.proofs.Common.{rules, arith};
+ghost use Rattle.std.proofs.Common.{rules};
 
 use crate::source::Source;
 
@@ -30,7 +30,7 @@ impl Source for Counter {
 
     ghost draws = { λ c r d. Counts c.next r d.next };
 
-    ghost names = { first_of (Prim.search rules, Prim.grind (arith, Self.row.coded.inj)) };
+    ghost names = { Prim.search rules };
 
     fn is_ahead(&self, name: u32) -> bool {
         self.next <= u64::from(name)

@@ -1,7 +1,7 @@
 ghost use Rattle.std.specs.Prelude.{◌≡◌, ◌≤◌, [], length, vec_len, vec_capacity, MatchResult};
 ghost use Rattle.names.specs.Sets.{minus};
 ghost use Rattle.names.specs.Withheld.{hidden, withhold_answer, withhold_leaves, FirstKept};
-ghost use Rattle.std.proofs.Common.{rules, arith};
+ghost use Rattle.std.proofs.Common.{rules};
 
 use crate::faults::ListFault;
 use crate::lists::is_listed;
@@ -72,7 +72,7 @@ impl<S: Source> Source for Withholding<S> {
 
     ghost draws = { λ w r v. FirstKept S.Source.draws w.withheld.items w.below r v.below × (v.withheld.items ≡ w.withheld.items) };
 
-    ghost names = { first_of (Prim.search rules, Prim.grind (arith, Self.row.coded.inj)) };
+    ghost names = { Prim.search rules };
 
     fn is_ahead(&self, name: u32) -> bool {
         self.below.is_ahead(name) && !is_listed(self.withheld.as_slice(), name)
