@@ -6,15 +6,20 @@ usage: tools/snake_case.py        at the top of the repository, once, right afte
 What is renamed: each name with a dash that stands in a file of specs/ or in a lemma file of proofs/
 and is not imported from a library, wherever it stands, in clauses of src/ too. What stays: functions
 and other names of src/, texts between quotes, names of libraries, and the names that Rattle makes
-(goals, steps and their fields), which keep their dashes. A lemma that begins with a type's name keeps
-the dash behind it, as the library's do. The names are printed.
+(goals, steps and their fields), which keep their dashes. Comments stay. The names are printed.
 """
 import os
 import re
 
 WORD = r"[^\s(){}\[\],;.:λ→«»\"|⌜⌝`]+"
 # Types, and a name with a word of the older library in it.
-SPECIAL = {"Declared-once": "DeclaredOnce", "below-getD": "below_get_or"}
+SPECIAL = {
+    "Declared-once": "DeclaredOnce",
+    "Drawn-all": "DrawnAll",
+    "Earlier-parts": "EarlierParts",
+    "Term-of": "TermOf",
+    "below-getD": "below_get_or",
+}
 
 
 def files():
@@ -58,9 +63,7 @@ def own_names():
 
 
 def snake(name):
-    if name in SPECIAL:
-        return SPECIAL[name]
-    return name if name[0].isupper() and len(name.split("-")[0]) > 1 else name.replace("-", "_")
+    return SPECIAL.get(name, name.replace("-", "_"))
 
 
 def respell(path, new):
@@ -78,7 +81,8 @@ def respell(path, new):
             return name
         return new[name]
 
-    out = re.sub(r'(?P<text>"(\\.|[^"\\\n])*")|(?P<word>' + WORD + ")", word, text)
+    comment = r"//[^\n]*" if path.endswith(".rt") else r"--\s[^\n]*"
+    out = re.sub(r'(?P<text>"(\\.|[^"\\\n])*"|' + comment + ")|(?P<word>" + WORD + ")", word, text)
     if out != text:
         with open(path, "w", encoding="utf-8") as f:
             f.write(out)

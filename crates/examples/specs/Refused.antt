@@ -8,7 +8,7 @@ use Rattle.terms.specs.Terms.{Term}
 use Rattle.terms.specs.declared.row.Item.{Item}
 
 module _ (lay : Meaning) (Σ : Context) (o : Item) (r : Rule) where
-  -- in every memory and role fact the first argument is the owner
+  -- each memory fact and each role fact begins with the owner
   abbrev pub AllOwned : Type 0
   AllOwned = (f : Fact) → f ∈ r.left ++ r.right → Owned o f
 

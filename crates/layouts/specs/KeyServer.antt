@@ -1,4 +1,4 @@
--- The key_server layout.
+-- The key-server layout.
 use Rattle.std.specs.Prelude.{true, false, List, [], ◌∷◌}
 use Rattle.layouts.specs.Meanings.{Meaning}
 use Rattle.layouts.specs.Tables.{Line, nobody, everybody, either, meaning_by}

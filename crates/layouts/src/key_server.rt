@@ -3,7 +3,7 @@ ghost use Rattle.layouts.specs.Lawfulness.{key_server_lawful};
 
 use crate::layout::{Kind, Layout, Parameters};
 
-/// The key_server layout: 0 msg, 1 principal, 2 nonce, 3 long-term keys and 4 short-term keys, each
+/// The key-server layout: 0 msg, 1 principal, 2 nonce, 3 long-term keys and 4 short-term keys, each
 /// of two principals.
 #[derive(Clone, Copy)]
 pub struct KeyServer;

@@ -6,17 +6,17 @@ use Rattle.names.specs.Sets.{without, listed, minus}
 use Rattle.names.specs.Many.{AllApart, ManyDrawn}
 
 -- these names come from f in turn, and g is left
-abbrev pub Drawn-all : (ℕ → Bool) → List ℕ → (ℕ → Bool) → Type 0
-Drawn-all f [] g = (n : ℕ) → g n ≡ f n
-Drawn-all f (x ∷ xs) g = (f x ≡ true) × Drawn-all (without f x) xs g
+abbrev pub DrawnAll : (ℕ → Bool) → List ℕ → (ℕ → Bool) → Type 0
+DrawnAll f [] g = (n : ℕ) → g n ≡ f n
+DrawnAll f (x ∷ xs) g = (f x ≡ true) × DrawnAll (without f x) xs g
 
 pub record Turns (k : ℕ) (f : ℕ → Bool) (old : List ℕ) (g : ℕ → Bool) (new : List ℕ) : Type 0 where
   pub made : List ℕ
   pub many : length made ≡ k
   pub appended : new ≡ old ++ made
-  pub drawn : Drawn-all f made g
+  pub drawn : DrawnAll f made g
 
-drawn_push : (f : ℕ → Bool) (xs : List ℕ) (g h : ℕ → Bool) (x : ℕ) → Drawn-all f xs g → g x ≡ true → ((n : ℕ) → h n ≡ without g x n) → Drawn-all f (xs ++ x ∷ []) h
+drawn_push : (f : ℕ → Bool) (xs : List ℕ) (g h : ℕ → Bool) (x : ℕ) → DrawnAll f xs g → g x ≡ true → ((n : ℕ) → h n ≡ without g x n) → DrawnAll f (xs ++ x ∷ []) h
 drawn_push f [] g h x d t after = (sym (d x) ∙ t, λ n. after n ∙ ap (λ b. b && not (eqb n x)) (d n))
 drawn_push f (y ∷ xs) g h x d t after = (d.0, drawn_push (without f y) xs g h x d.1 t after)
 
@@ -32,7 +32,7 @@ turns_more k f old g new h x p t after = record {
 }
 
 -- ---- what the turns come to
-were : (f : ℕ → Bool) (xs : List ℕ) (g : ℕ → Bool) → Drawn-all f xs g → (n : ℕ) → listed xs n ≡ true → f n ≡ true
+were : (f : ℕ → Bool) (xs : List ℕ) (g : ℕ → Bool) → DrawnAll f xs g → (n : ℕ) → listed xs n ≡ true → f n ≡ true
 were f [] g d n e = let z : ◌≡◌ {A = ℕ} 0 1 = cc in let none : ⊥ = omega arith in absurd none
 were f (x ∷ xs) g d n e =
     ⊎_elim
@@ -45,7 +45,7 @@ regroup true true c = refl
 regroup true false c = refl
 regroup false b c = refl
 
-left : (f : ℕ → Bool) (xs : List ℕ) (g : ℕ → Bool) → Drawn-all f xs g → (n : ℕ) → g n ≡ minus f xs n
+left : (f : ℕ → Bool) (xs : List ℕ) (g : ℕ → Bool) → DrawnAll f xs g → (n : ℕ) → g n ≡ minus f xs n
 left f [] g d n = d n ∙ unit (f n)
   where
     unit : (b : Bool) → b ≡ b && true
@@ -53,7 +53,7 @@ left f [] g d n = d n ∙ unit (f n)
     unit false = refl
 left f (x ∷ xs) g d n = left (without f x) xs g d.1 n ∙ regroup (f n) (eqb n x) (listed xs n)
 
-apart : (f : ℕ → Bool) (xs : List ℕ) (g : ℕ → Bool) → Drawn-all f xs g → AllApart xs
+apart : (f : ℕ → Bool) (xs : List ℕ) (g : ℕ → Bool) → DrawnAll f xs g → AllApart xs
 apart f [] g d = tt
 apart f (x ∷ xs) g d = (⊎_elim (λ t. again t) (λ e. e) (cases_Bool (listed xs x)), apart (without f x) xs g d.1)
   where

@@ -6,7 +6,7 @@ use Rattle.refusals.proofs.Deciding.{clash}
 use Rattle.std.proofs.lemmas.List.{length_push, length-take-le, take-append-drop}
 use Rattle.std.proofs.lemmas.Bool.{ne_eqb, eq-eqb, eqb-true, and_parts, cases_lt}
 use Rattle.std.specs.List.{slice_get}
-use Rattle.terms.proofs.Booked.{Earlier, Earlier-parts, earlier}
+use Rattle.terms.proofs.Booked.{Earlier, EarlierParts, earlier}
 use Rattle.terms.proofs.Numbered.{row_within, row_there, row_from_one, nth_within}
 use Rattle.terms.specs.Adding.{number_in}
 use Rattle.terms.specs.Books.{is_book}
@@ -123,7 +123,7 @@ module _ (o : Owner) where
           sym (ap (λ xs. row_at (reds [] [] xs) a) (sym (take-append-drop (k - 1) rows)) ∙ ap (λ xs. row_at xs a) (reds_split [] [] P (drop (k - 1) rows)) ∙ reds_kept (reds [] [] P) (lows o P) (drop (k - 1) rows) a (omega (arith, reds_long [] [] P, short)))
 
       -- parts are earlier, so that the whole table compares the row as its beginning does
-      reduced_same : (q : Row) → Earlier-parts rows k q → reduced o (lows o P) q ≡ reduced o L q
+      reduced_same : (q : Row) → EarlierParts rows k q → reduced o (lows o P) q ≡ reduced o L q
       reduced_same (row.Item i) p = refl
       reduced_same (row.Pair a b) p = ap₂ row.Pair (before a (omega (arith, p.0.1))) (before b (omega (arith, p.1.1)))
       reduced_same (row.Seal c j) p = ap₂ row.Seal (before c (omega (arith, p.0.1))) (before j (omega (arith, p.1.1)))

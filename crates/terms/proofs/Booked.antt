@@ -41,11 +41,11 @@ abbrev pub Earlier : ℕ → ℕ → Type 0
 Earlier k j = (0 < j) × (j < k)
 
 -- parts and key of the row with the number k are earlier rows, and the key is an item
-abbrev pub Earlier-parts : List Row → ℕ → Row → Type 0
-Earlier-parts rows k (row.Item i) = Unit {0}
-Earlier-parts rows k (row.Pair a b) = Earlier k a × Earlier k b
-Earlier-parts rows k (row.Seal c j) = Earlier k c × Earlier k j × ((i : Item) × (row_at rows j ≡ Some (row.Item i)))
-Earlier-parts rows k (row.Lock c j) = Earlier k c × Earlier k j × ((i : Item) × (row_at rows j ≡ Some (row.Item i)))
+abbrev pub EarlierParts : List Row → ℕ → Row → Type 0
+EarlierParts rows k (row.Item i) = Unit {0}
+EarlierParts rows k (row.Pair a b) = Earlier k a × Earlier k b
+EarlierParts rows k (row.Seal c j) = Earlier k c × Earlier k j × ((i : Item) × (row_at rows j ≡ Some (row.Item i)))
+EarlierParts rows k (row.Lock c j) = Earlier k c × Earlier k j × ((i : Item) × (row_at rows j ≡ Some (row.Item i)))
 
 module _ (rows : List Row) (book : is_book rows ≡ true) where
   -- the row with a number may follow those before it
@@ -72,13 +72,13 @@ module _ (rows : List Row) (book : is_book rows ≡ true) where
     key_item : (j : ℕ) → Earlier k j → is_item (row_at (take (k - 1) rows) j) ≡ true → (i : Item) × (row_at rows j ≡ Some (row.Item i))
     key_item j w e = let found = item_from (row_at (take (k - 1) rows) j) e in (found.0, sym (row_take rows (k - 1) j (omega arith)) ∙ found.1)
 
-    earlier_parts : (r : Row) → Fits (take (k - 1) rows) r → Earlier-parts rows k r
+    earlier_parts : (r : Row) → Fits (take (k - 1) rows) r → EarlierParts rows k r
     earlier_parts (row.Item i) f = tt
     earlier_parts (row.Pair a b) f = two a b f.parts
     earlier_parts (row.Seal c j) f = let p = two c j f.parts in (p.0, p.1, key_item j p.1 f.key)
     earlier_parts (row.Lock c j) f = let p = two c j f.parts in (p.0, p.1, key_item j p.1 f.key)
 
-  pub earlier : (k : ℕ) (r : Row) → row_at rows k ≡ Some r → Earlier-parts rows k r
+  pub earlier : (k : ℕ) (r : Row) → row_at rows k ≡ Some r → EarlierParts rows k r
   earlier k r e = let w = row_within rows k r e in earlier_parts k w.0 w.1 r (fits k r e)
 
   -- no row equals a later one

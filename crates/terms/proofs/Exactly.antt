@@ -7,7 +7,7 @@ use Rattle.terms.specs.Standing.{Stands, an_item, a_pair, a_seal, a_lock, Exact}
 use Rattle.terms.specs.declared.row.Row.{Row}
 use Rattle.terms.specs.declared.row.Row.TheVariants as row
 use Rattle.terms.proofs.Numbered.{clash, row_there, is_row_from}
-use Rattle.terms.proofs.Booked.{Earlier-parts, earlier, apart}
+use Rattle.terms.proofs.Booked.{EarlierParts, earlier, apart}
 
 module _ (rows : List Row) where
   pub one_term : (k : ℕ) (s t : Term) → Stands rows k s → Stands rows k t → s ≡ t
@@ -55,11 +55,11 @@ module _ (rows : List Row) where
         let h_is = one_row h h' (item i) z z' in
         apart rows book j k (row.Lock c h) p (rw (c_is, h_is) q)
 
-    abbrev Term-of : ℕ → Type 0
-    Term-of k = (t : Term) × Stands rows k t
+    abbrev TermOf : ℕ → Type 0
+    TermOf k = (t : Term) × Stands rows k t
 
     -- the term of a row, by those of the rows before it
-    term_by : (k : ℕ) → k ≤ length rows → (r : Row) → row_at rows k ≡ Some r → Earlier-parts rows k r → ((j : ℕ) → 0 < j → j < k → Term-of j) → Term-of k
+    term_by : (k : ℕ) → k ≤ length rows → (r : Row) → row_at rows k ≡ Some r → EarlierParts rows k r → ((j : ℕ) → 0 < j → j < k → TermOf j) → TermOf k
     term_by k within (row.Item i) e early below = (item i, an_item e)
     term_by k within (row.Pair a b) e early below =
         let s = below a early.0.0 early.0.1 in
@@ -68,7 +68,7 @@ module _ (rows : List Row) where
     term_by k within (row.Seal c j) e early below = let t = below c early.0.0 early.0.1 in (seal t.0 early.2.0, a_seal e t.1 (an_item early.2.1))
     term_by k within (row.Lock c j) e early below = let t = below c early.0.0 early.0.1 in (lock t.0 early.2.0, a_lock e t.1 (an_item early.2.1))
 
-    term_below : (n k : ℕ) → k < n → 0 < k → k ≤ length rows → Term-of k
+    term_below : (n k : ℕ) → k < n → 0 < k → k ≤ length rows → TermOf k
     term_below zero k bound low within = let none : ⊥ = omega arith in absurd none
     term_below (suc n) k bound low within =
         let r = get_or rows (k - 1) (row.Pair 0 0) in
