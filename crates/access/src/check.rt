@@ -33,8 +33,7 @@ pub fn check_access<L: Layout>(layout: &L, theory: &Theory) -> Result<(), CheckF
     ensures judged { Passes result (Accessible (L.meaning layout.now) theory.now) }
 {
     check_tables(theory, Default::default())?;
-    check_rules_of(layout, theory)?;
-    Ok(())
+    Ok(check_rules_of(layout, theory)?)
 }
 
 /// All checks of a theory: its tables, its types, its data access.
