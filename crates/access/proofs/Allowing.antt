@@ -25,7 +25,7 @@ use Rattle.theory.specs.declared.data.Fact.{Fact}
 use Rattle.theory.specs.declared.data.Role.{Role}
 use Rattle.theory.specs.declared.data.Rule.{Rule}
 use Rattle.theory.specs.declared.data.Theory.{Theory}
-use Rattle.theory.specs.declared.data.Ty as tables
+use Rattle.theory.specs.Data as tables
 use Rattle.types.proofs.Found.{declare_at, declare_cases}
 use Rattle.types.proofs.Ruled.{declare_onto}
 use Rattle.types.specs.Judged.{variable_decl, context_of}

@@ -36,7 +36,7 @@ use Rattle.theory.specs.Owners.{owner_item, item_of}
 use Rattle.theory.specs.declared.data.Fact.{Fact}
 use Rattle.theory.specs.declared.data.Symbol.{Symbol}
 use Rattle.theory.specs.declared.data.Symbol.TheVariants as symbol
-use Rattle.theory.specs.declared.data.Ty as tables
+use Rattle.theory.specs.Data as tables
 use Rattle.theory.specs.declared.owner.Owner.{Owner}
 use Rattle.types.proofs.Found.{declare_at, declare_cases}
 use Rattle.types.specs.Facts.{item_in}

@@ -7,12 +7,13 @@ use Rattle.reading.specs.declared.scope.Entry.{Entry}
 use Rattle.refusals.proofs.Deciding.{clash}
 use Rattle.std.proofs.lemmas.List.{take_more, map_more, length-take-le}
 use Rattle.std.specs.List.{slice_get}
+use Rattle.terms.specs.declared.row.Item.{Item}
 use Rattle.terms.specs.declared.row.Item.TheVariants.{Name, Variable}
 use Rattle.theory.specs.Owners.{item_of}
 use Rattle.theory.specs.declared.data.Declared.{Declared}
-use Rattle.theory.specs.declared.data.Params.{Params}
-use Rattle.theory.specs.declared.data.Params.TheVariants.{Zero, One, Two}
-use Rattle.theory.specs.declared.data.Ty.{Ty}
+use Rattle.layouts.specs.declared.layout.Params.{Params}
+use Rattle.layouts.specs.declared.layout.Params.TheVariants.{Zero, One, Two}
+use Rattle.theory.specs.Data.{Ty}
 use Rattle.theory.specs.declared.owner.Owner.{Owner}
 use Rattle.theory.specs.declared.owner.Owner.TheVariants.{Nobody, Generic, Anchored}
 use Rattle.types.proofs.Found.{declare_at, declare_cases, declare_kept, owner_kept}
@@ -40,7 +41,7 @@ variables_more o before now Ts i T x within is inv =
     ∙ ap (λ xs. before ++ xs) (ap (λ n. variable_entries o 1 (take i Ts) ++ (variable_entry o n (get_or Ts i T) ∷ [])) (sym long) ∙ sym (variables_push o 1 (take i Ts) (get_or Ts i T)) ∙ ap (variable_entries o 1) (sym (take_more Ts i T within)))
 
 -- ---- the same declarations
-read_items : (o : Owner) (ps : Params) → items (read_params o ps) ≡ map (item_of o) (items ps)
+read_items : (o : Owner) (ps : Params Item) → items (read_params o ps) ≡ map (item_of o) (items ps)
 read_items o Zero = refl
 read_items o (One p) = refl
 read_items o (Two p q) = refl

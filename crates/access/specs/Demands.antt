@@ -14,7 +14,7 @@ use Rattle.theory.specs.declared.data.Fact.{Fact}
 use Rattle.theory.specs.declared.data.Role.{Role}
 use Rattle.theory.specs.declared.data.Rule.{Rule}
 use Rattle.theory.specs.declared.data.Theory.{Theory}
-use Rattle.theory.specs.declared.data.Ty.{Ty}
+use Rattle.theory.specs.Data.{Ty}
 use Rattle.types.specs.Judged.{declare, variable_decl, context_of}
 use Rattle.types.specs.Rows.{term_at}
 use Rattle.types.specs.Rules.{Place, over}

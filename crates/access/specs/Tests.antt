@@ -11,7 +11,7 @@ use Rattle.theory.specs.Owners.{owner_item, item_of}
 use Rattle.theory.specs.declared.data.Fact.{Fact}
 use Rattle.theory.specs.declared.data.Symbol.{Symbol}
 use Rattle.theory.specs.declared.data.Symbol.TheVariants as symbol
-use Rattle.theory.specs.declared.data.Ty.{Ty}
+use Rattle.theory.specs.Data.{Ty}
 use Rattle.theory.specs.declared.owner.Owner.{Owner}
 use Rattle.types.specs.Rows.{at, row_at, fill}
 use Rattle.types.specs.Rules.{Place}

@@ -1,9 +1,10 @@
 ghost use Rattle.std.specs.Prelude.{◌≡◌, ◌+◌, ◌<◌, ◌≤◌, [], ◌∷◌, ◌++◌, map, length};
 ghost use Rattle.access.specs.Scopes.{read_type, name_entry, owner_entries, variable_entry, variable_entries, rule_scope, entries_of};
 
+use layouts::layout::Params;
 use reading::scope::Entry;
 use terms::row::Item;
-use theory::data::{Declared, Params, Ty};
+use theory::data::{Declared, Ty};
 use theory::owner::Owner;
 
 /// The items declared where a rule is read: the first `len` entries.

@@ -17,7 +17,7 @@ use Rattle.terms.specs.declared.faults.BookFault.{BookFault}
 use Rattle.terms.specs.declared.row.Row.{Row}
 use Rattle.terms.specs.Held.{capacity_of}
 use Rattle.theory.specs.Tables.{tables_check}
-use Rattle.theory.specs.declared.data.Argument.{Argument}
+use Rattle.theory.specs.Data.{Argument}
 use Rattle.theory.specs.declared.data.Declared.{Declared}
 use Rattle.theory.specs.declared.data.Theory.{Theory}
 use Rattle.theory.specs.declared.faults.TableFault.{TableFault}

@@ -3,12 +3,12 @@ use Rattle.std.specs.Prelude.{ℕ, List, [], ◌∷◌, ◌++◌, map, Some, Non
 use Rattle.std.specs.Option.{option_map}
 use Rattle.script.specs.Facts.{SaidFact, said_fact}
 use Rattle.script.specs.Said.{SaidPart, SaidRulePart, predicate, rule, of_rule, universal, made, left_fact, right_fact}
-use Rattle.theory.specs.declared.data.Argument.{Argument}
+use Rattle.theory.specs.Data.{Argument}
 use Rattle.theory.specs.declared.data.Fact.{Fact}
 use Rattle.theory.specs.declared.data.Predicate.{Predicate}
 use Rattle.theory.specs.declared.data.Role.{Role}
 use Rattle.theory.specs.declared.data.Rule.{Rule}
-use Rattle.theory.specs.declared.data.Ty.{Ty}
+use Rattle.theory.specs.Data.{Ty}
 
 abbrev pub arguments_of : List Predicate → List (List Argument)
 arguments_of Ps = map (λ P. vec_items P.arguments) Ps

@@ -6,7 +6,7 @@ use Rattle.names.specs.Any.{View, reading, view_of}
 use Rattle.names.specs.Layered.{below_of, withheld_of}
 use Rattle.terms.specs.Held.{rows_of}
 use Rattle.terms.specs.declared.row.Row.{Row}
-use Rattle.theory.specs.declared.data.Argument.{Argument}
+use Rattle.theory.specs.Data.{Argument}
 use Rattle.theory.specs.declared.data.Declared.{Declared}
 use Rattle.theory.specs.declared.data.Theory.{Theory}
 use Rattle.script.specs.Facts.{SaidFact}

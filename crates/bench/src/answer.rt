@@ -2,6 +2,7 @@ ghost use Rattle.std.specs.Prelude.{Some};
 ghost use Rattle.bench.specs.Answers.{written};
 
 use crate::faults::Fault;
+use refusals::Refusal;
 use std::fmt;
 
 /// The answer to a line of a script.
@@ -34,9 +35,8 @@ impl fmt::Display for Answer {
             Answer::Withheld(count) => write!(f, "withheld {count}"),
             Answer::Passed => write!(f, "ok"),
             Answer::Refused(fault) => {
-                let refusal = fault.refusal();
-                let reason = fault.reason();
-                write!(f, "refused {refusal}: {reason}")
+                let refusal = Refusal::from(*fault);
+                write!(f, "refused {refusal}: {fault}")
             }
             Answer::NotUnderstood => write!(f, "not understood"),
         }

@@ -1,9 +1,10 @@
-ghost use Rattle.std.specs.Prelude.{◌≡◌};
+ghost use Rattle.std.specs.Prelude.{◌≡◌, Some};
 ghost use Rattle.bench.specs.Faults.{refusal_of, reason_of};
 ghost use Rattle.bench.specs.declared.faults.Fault.TheVariants.{Table, Typing};
 
 use names::faults::ListFault;
 use refusals::Refusal;
+use std::fmt;
 use terms::faults::BookFault;
 use theory::faults::TableFault;
 use types::faults::TypeFault;
@@ -17,28 +18,30 @@ pub enum Fault {
     Typing(TypeFault),
 }
 
-impl Fault {
-    /// The six numbers of the fault.
-    pub fn refusal(self) -> Refusal
-        ensures { result ≡ refusal_of self }
-    {
-        match self {
-            Fault::Book(fault) => fault.refusal(),
+/// The six numbers of the fault.
+impl From<Fault> for Refusal {
+    ghost from_gives = { λ f r. r ≡ refusal_of f };
+
+    fn from(fault: Fault) -> Refusal {
+        match fault {
+            Fault::Book(fault) => fault.into(),
             Fault::List(fault) => fault.refusal(),
             Fault::Table(fault) => fault.refusal(),
             Fault::Typing(fault) => fault.refusal(),
         }
     }
+}
 
-    /// The reason in words.
-    pub fn reason(self) -> &'static str
-        ensures { result.now ≡ reason_of self }
-    {
+/// The reason in words.
+impl fmt::Display for Fault {
+    ghost output = { λ f. Some (reason_of f) };
+
+    fn fmt<W: fmt::Write>(&self, f: &mut fmt::Formatter<W>) -> fmt::Result {
         match self {
-            Fault::Book(fault) => fault.reason(),
-            Fault::List(fault) => fault.reason(),
-            Fault::Table(fault) => fault.reason(),
-            Fault::Typing(fault) => fault.reason(),
+            Fault::Book(fault) => fault.fmt(f),
+            Fault::List(fault) => f.write_str(fault.reason()),
+            Fault::Table(fault) => f.write_str(fault.reason()),
+            Fault::Typing(fault) => f.write_str(fault.reason()),
         }
     }
 }

@@ -1,7 +1,8 @@
 -- The earliest place is the first one, in the words of `First`.
-use Rattle.std.proofs.Common.{◌≡◌, ℕ, zero, suc, ◌+◌, Bool, true, false, List, [], ◌∷◌, Some, None, Option, sym, refl, subst, ⊎_elim, arith}
+use Rattle.std.proofs.Common.{◌≡◌, ℕ, zero, suc, ◌+◌, ◌<◌, Bool, true, false, List, [], ◌∷◌, length, Some, None, Option, sym, refl, subst, ⊎_elim, arith}
+use Rattle.std.specs.List.{position_from}
 use Rattle.std.proofs.lemmas.Bool.{cases_Bool}
-use Rattle.earliest.specs.Places.{earliest, earliest_from, NoneBefore, First, Located}
+use Rattle.earliest.specs.Places.{earliest, NoneBefore, First}
 
 pub clash : {A : Type 0} → ◌≡◌ {A = ℕ} 0 1 → A
 clash e = let none : ⊥ = omega arith in absurd none
@@ -21,18 +22,18 @@ module _ {X : Type 0} (same : X → X → Bool) (x : X) where
   Shifted n ys None = First same x ys None
   Shifted n ys (Some m) = (k : ℕ) × (m ≡ n + k) × First same x ys (Some k)
 
-  here : (n : ℕ) (y : X) (ys : List X) → same y x ≡ true → Shifted n (y ∷ ys) (earliest_from same x n (y ∷ ys))
+  here : (n : ℕ) (y : X) (ys : List X) → same y x ≡ true → Shifted n (y ∷ ys) (position_from (λ z. same z x) n (y ∷ ys))
   here n y ys t = rw t (0, omega arith, ((y, refl, t), λ k low. let none : ⊥ = omega arith in absurd none))
 
   past : (n : ℕ) (y : X) (ys : List X) → same y x ≡ false → (r : Option ℕ) → Shifted (n + 1) ys r → Shifted n (y ∷ ys) r
   past n y ys f None b = none_more y ys f b
   past n y ys f (Some m) b = (suc b.0, omega (arith, b.1), (b.2.0, before_more y ys b.0 f b.2.1))
 
-  shifted : (n : ℕ) (ys : List X) → Shifted n ys (earliest_from same x n ys)
+  shifted : (n : ℕ) (ys : List X) → Shifted n ys (position_from (λ z. same z x) n ys)
   shifted n [] = λ k y e. clash (cc)
   shifted n (y ∷ ys) =
       let later = shifted (n + 1) ys in
-      ⊎_elim (here n y ys) (λ f. rw f (past n y ys f (earliest_from same x (n + 1) ys) later)) (cases_Bool (same y x))
+      ⊎_elim (here n y ys) (λ f. rw f (past n y ys f (position_from (λ z. same z x) (n + 1) ys) later)) (cases_Bool (same y x))
 
   unshifted : (ys : List X) (r : Option ℕ) → Shifted 0 ys r → First same x ys r
   unshifted ys None b = b
@@ -41,5 +42,11 @@ module _ {X : Type 0} (same : X → X → Bool) (x : X) where
   pub earliest_first : (ys : List X) (r : Option ℕ) → r ≡ earliest same x ys → First same x ys r
   earliest_first ys r e = subst (First same x ys) (sym e) (unshifted ys (earliest same x ys) (shifted 0 ys))
 
-pub located : {X : Type 0} {same : X → X → Bool} {x : X} {ys : List X} {r : Option ℕ} → r ≡ earliest same x ys → Located same x ys r
-located {X} {same} {x} {ys} {r} e = record { value = e; first = earliest_first same x ys r e }
+-- a place that is found lies within the list
+pub earliest_within : {X : Type 0} (same : X → X → Bool) (x : X) (n : ℕ) (ys : List X) (i : ℕ) → position_from (λ y. same y x) n ys ≡ Some i → i < n + length ys
+earliest_within same x n [] i e = let z : ◌≡◌ {A = ℕ} 0 1 = cc in omega arith
+earliest_within same x n (y ∷ ys) i e =
+    ⊎_elim
+    (λ t. let found : Some n ≡ Some i = rw t at e in let here : n ≡ i = cc in omega arith)
+    (λ f. let later : position_from (λ z. same z x) (n + 1) ys ≡ Some i = rw f at e in omega (arith, earliest_within same x (n + 1) ys i later))
+    (cases_Bool (same y x))

@@ -1,8 +1,8 @@
 -- What a layout of types means.
 use Rattle.std.specs.Prelude.{ℕ, Bool, List, [], ◌∷◌}
 use Rattle.layouts.specs.declared.layout.Kind.{Kind}
-use Rattle.layouts.specs.declared.layout.Parameters.{Parameters}
-use Rattle.layouts.specs.declared.layout.Parameters.TheVariants.{Zero, One, Two}
+use Rattle.layouts.specs.declared.layout.Params.{Params}
+use Rattle.layouts.specs.declared.layout.Params.TheVariants.{Zero, One, Two}
 
 -- Families of types are told by their numbers, and items by their codes.
 pub record Meaning : Type 0 where
@@ -19,8 +19,8 @@ pub record Meaning : Type 0 where
   -- whether an owner is granted the items of a family: the owner's code, the family, the codes of the two parameters, and that of the first one's own parameter
   pub grants : ℕ → ℕ → ℕ → ℕ → ℕ → Bool
 
--- The families of parameters, as a list.
-abbrev pub families_of : Parameters → List ℕ
-families_of Zero = []
-families_of (One F) = F ∷ []
-families_of (Two F G) = F ∷ G ∷ []
+-- The parameters as a list.
+abbrev pub listed : {P : Type 0} → Params P → List P
+listed Zero = []
+listed (One p) = p ∷ []
+listed (Two p q) = p ∷ q ∷ []

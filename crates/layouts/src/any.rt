@@ -2,7 +2,7 @@ ghost use Rattle.layouts.specs.Any.{meaning_of};
 ghost use Rattle.layouts.specs.Lawfulness.{any_lawful};
 
 use crate::key_server::KeyServer;
-use crate::layout::{Kind, Layout, Parameters};
+use crate::layout::{Kind, Layout, Params};
 use crate::report::Report;
 
 /// One of the two layouts, chosen at run time.
@@ -24,7 +24,7 @@ impl Layout for AnyLayout {
         }
     }
 
-    fn parameters(&self, family: u8) -> Parameters {
+    fn parameters(&self, family: u8) -> Params<u8> {
         match self {
             AnyLayout::Report(layout) => layout.parameters(family),
             AnyLayout::KeyServer(layout) => layout.parameters(family),

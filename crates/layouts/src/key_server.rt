@@ -1,7 +1,7 @@
 ghost use Rattle.layouts.specs.KeyServer.{key_server};
 ghost use Rattle.layouts.specs.Lawfulness.{key_server_lawful};
 
-use crate::layout::{Kind, Layout, Parameters};
+use crate::layout::{Kind, Layout, Params};
 
 /// The key-server layout: 0 msg, 1 principal, 2 nonce, 3 long-term keys and 4 short-term keys, each
 /// of two principals.
@@ -17,10 +17,10 @@ impl Layout for KeyServer {
         5
     }
 
-    fn parameters(&self, family: u8) -> Parameters {
+    fn parameters(&self, family: u8) -> Params<u8> {
         match family {
-            3 | 4 => Parameters::Two(1, 1),
-            _ => Parameters::Zero,
+            3 | 4 => Params::Two(1, 1),
+            _ => Params::Zero,
         }
     }
 

@@ -1,13 +1,13 @@
 ghost use Rattle.std.specs.Prelude.{◌≡◌};
-ghost use Rattle.layouts.specs.Meanings.{Meaning, families_of};
+ghost use Rattle.layouts.specs.Meanings.{Meaning, listed};
 ghost use Rattle.layouts.specs.Laws.{Lawful};
 
-/// The families of a family's parameters.
+/// The parameters of a type, each told by a `P`: of a family by families, of a type by items.
 #[derive(Clone, Copy, PartialEq, Eq)]
-pub enum Parameters {
+pub enum Params<P> {
     Zero,
-    One(u8),
-    Two(u8, u8),
+    One(P),
+    Two(P, P),
 }
 
 /// What the items of a family do as keys.
@@ -34,8 +34,8 @@ pub trait Layout {
         ensures { result ≡ (meaning self.now).families };
 
     /// The families of the parameters of a type of the family.
-    fn parameters(&self, family: u8) -> Parameters
-        ensures { families_of result ≡ (meaning self.now).params family };
+    fn parameters(&self, family: u8) -> Params<u8>
+        ensures { listed result ≡ (meaning self.now).params family };
 
     /// Whether the items of the family may be sent, being messages too.
     fn is_sendable(&self, family: u8) -> bool

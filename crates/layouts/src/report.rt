@@ -1,7 +1,7 @@
 ghost use Rattle.layouts.specs.Report.{report};
 ghost use Rattle.layouts.specs.Lawfulness.{report_lawful};
 
-use crate::layout::{Kind, Layout, Parameters};
+use crate::layout::{Kind, Layout, Params};
 
 /// The report layout: 0 msg, 1 principal, 2 nonce, 3 shared keys of two principals, 4 public keys
 /// of a principal, 5 private keys of a public key.
@@ -17,12 +17,12 @@ impl Layout for Report {
         6
     }
 
-    fn parameters(&self, family: u8) -> Parameters {
+    fn parameters(&self, family: u8) -> Params<u8> {
         match family {
-            3 => Parameters::Two(1, 1),
-            4 => Parameters::One(1),
-            5 => Parameters::One(4),
-            _ => Parameters::Zero,
+            3 => Params::Two(1, 1),
+            4 => Params::One(1),
+            5 => Params::One(4),
+            _ => Params::Zero,
         }
     }
 

@@ -21,8 +21,8 @@ use Rattle.terms.specs.declared.row.Row.{Row}
 use Rattle.terms.specs.declared.row.Row.TheVariants as row
 use Rattle.theory.specs.Owners.{owner_item, item_of}
 use Rattle.theory.specs.declared.data.Fact.{Fact}
-use Rattle.theory.specs.declared.data.Params.{Params}
-use Rattle.theory.specs.declared.data.Params.TheVariants.{Zero, One, Two}
+use Rattle.layouts.specs.declared.layout.Params.{Params}
+use Rattle.layouts.specs.declared.layout.Params.TheVariants.{Zero, One, Two}
 use Rattle.theory.specs.declared.owner.Owner.{Owner}
 use Rattle.types.specs.Facts.{item_in}
 use Rattle.types.specs.Rows.{at, row_at, nothing, term_of, terms, term_at}
@@ -245,7 +245,7 @@ module _ (lay : Meaning) (scope : List Entry) (o : Owner) (rows : List Row) (boo
     item_row n (row.Seal c k) j e s = clash (cc (shaped o rows book n (row.Seal c k) e))
     item_row n (row.Lock c k) j e s = clash (cc (shaped o rows book n (row.Lock c k) e))
 
-    opener_sound : (k : Item) (e : Entry) → e ∈ scope → (ps : Params) → e.of.params ≡ ps → OpensNow k (opener_by lay scope o rows e ps) → LockOpen k
+    opener_sound : (k : Item) (e : Entry) → e ∈ scope → (ps : Params Item) → e.of.params ≡ ps → OpensNow k (opener_by lay scope o rows e ps) → LockOpen k
     opener_sound k e m Zero is h = absurd h
     opener_sound k e m (Two p q) is h = absurd h
     opener_sound k e m (One p) is h = go (locks_for lay scope p e.of.family) refl h
@@ -269,7 +269,7 @@ module _ (lay : Meaning) (scope : List Entry) (o : Owner) (rows : List Row) (boo
                   x.1,
             )
 
-    one_param : (ps : Params) (k : Item) → items ps ≡ k ∷ [] → ps ≡ One k
+    one_param : (ps : Params Item) (k : Item) → items ps ≡ k ∷ [] → ps ≡ One k
     one_param Zero k e = clash (cc)
     one_param (One p) k e = cc
     one_param (Two p q) k e = clash (cc)

@@ -14,7 +14,7 @@ use Rattle.std.proofs.lemmas.Bool.{or_cases, or_left, or_right}
 use Rattle.terms.specs.Rows.{same_item}
 use Rattle.terms.specs.declared.row.Item.{Item}
 use Rattle.terms.specs.declared.row.Item.TheVariants.{Name, Variable}
-use Rattle.theory.specs.declared.data.Ty as tables
+use Rattle.theory.specs.Data as tables
 use Rattle.types.specs.Types.{items}
 use Rattle.reading.specs.Any.{any}
 use Rattle.reading.specs.Grants.{above_grants, grants_by, type_granted, entry_grants, item_granted}

@@ -8,7 +8,7 @@ use Rattle.terms.specs.declared.row.Item.{Item}
 use Rattle.terms.specs.declared.row.Row.{Row}
 use Rattle.terms.specs.declared.row.Row.TheVariants as row
 use Rattle.theory.specs.Owners.{owner_item, item_of}
-use Rattle.theory.specs.declared.data.Ty.{Ty}
+use Rattle.theory.specs.Data.{Ty}
 use Rattle.theory.specs.declared.owner.Owner.{Owner}
 use Rattle.types.specs.Rows.{fill}
 use Rattle.types.specs.Types.{items}

@@ -8,8 +8,8 @@ use Rattle.terms.specs.declared.row.Item.{Item}
 use Rattle.terms.specs.declared.row.Row.{Row}
 use Rattle.terms.specs.declared.row.Row.TheVariants as row
 use Rattle.theory.specs.Owners.{owner_item, item_of}
-use Rattle.theory.specs.declared.data.Params.{Params}
-use Rattle.theory.specs.declared.data.Params.TheVariants.{Zero, One, Two}
+use Rattle.layouts.specs.declared.layout.Params.{Params}
+use Rattle.layouts.specs.declared.layout.Params.TheVariants.{Zero, One, Two}
 use Rattle.theory.specs.declared.owner.Owner.{Owner}
 use Rattle.reading.specs.Any.{any}
 use Rattle.reading.specs.Grants.{item_granted}
@@ -41,7 +41,7 @@ abbrev pub row_of : Owner → Item → ℕ → List Row → ℕ
 row_of o i n [] = 0
 row_of o i n (r ∷ rows) = cond (reads_as o i r) n (row_of o i (n + 1) rows)
 
-abbrev pub opener_by : Meaning → List Entry → Owner → List Row → Entry → Params → Option Opener
+abbrev pub opener_by : Meaning → List Entry → Owner → List Row → Entry → Params Item → Option Opener
 opener_by lay scope o rows e Zero = None
 opener_by lay scope o rows e (One k) = cond (locks_for lay scope k e.of.family) (Some (record { key = k; granted = item_granted lay scope (owner_item o) e.item; row = row_of o e.item 1 rows })) None
 opener_by lay scope o rows e (Two p q) = None

@@ -6,11 +6,11 @@ ghost use Rattle.reading.specs.Grants.{above_grants, type_granted, entry_grants,
 use crate::places::is_same;
 use crate::scope::Entry;
 use layouts::code::code;
-use layouts::layout::Layout;
+use layouts::layout::{Layout, Params};
 use terms::row::Item;
-use theory::data::{Params, Ty};
+use theory::data::Ty;
 
-fn first(params: Params) -> Option<Item>
+fn first(params: Params<Item>) -> Option<Item>
     ensures { result ≡ first_of (items params) }
 {
     match params {
@@ -19,7 +19,7 @@ fn first(params: Params) -> Option<Item>
     }
 }
 
-fn second(params: Params) -> Option<Item>
+fn second(params: Params<Item>) -> Option<Item>
     ensures { result ≡ second_of (items params) }
 {
     match params {

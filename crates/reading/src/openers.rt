@@ -4,9 +4,9 @@ ghost use Rattle.reading.specs.Openers.{entry_locks, locks_for, reads_as, row_of
 use crate::grants::is_granted;
 use crate::places::is_same;
 use crate::scope::Entry;
-use layouts::layout::{Kind, Layout};
+use layouts::layout::{Kind, Layout, Params};
 use terms::row::{Item, Row};
-use theory::data::Params;
+
 use theory::owner::Owner;
 
 /// A declared item that opens what is locked under a key: the key, whether the owner is granted the

@@ -3,3 +3,4 @@ pub mod Written
 pub mod Walks
 pub mod Decides
 pub mod Demands
+pub mod Faults

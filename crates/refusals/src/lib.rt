@@ -1,8 +1,12 @@
-//! How a refused call is told: six numbers, the same in every layer of the bench.
+//! How a refused call is told: six numbers and a reason in words, the same in every layer of the
+//! bench; and how a list is checked until its first fault.
 #![tactic(auto)]
 
 ghost use Rattle.std.specs.Prelude.{◌++◌, Some};
 ghost use Rattle.refusals.specs.Written.{written};
+
+pub mod fault;
+pub mod walk;
 
 use std::fmt;
 

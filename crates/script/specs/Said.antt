@@ -2,9 +2,9 @@
 use Rattle.std.specs.Prelude.{ℕ, List, vec_items, Option}
 use Rattle.layouts.specs.declared.any.AnyLayout.{AnyLayout}
 use Rattle.terms.specs.declared.row.Row.{Row}
-use Rattle.theory.specs.declared.data.Argument.{Argument}
+use Rattle.theory.specs.Data.{Argument}
 use Rattle.theory.specs.declared.data.Declared.{Declared}
-use Rattle.theory.specs.declared.data.Ty.{Ty}
+use Rattle.theory.specs.Data.{Ty}
 use Rattle.script.specs.Facts.{SaidFact, said_fact}
 use Rattle.script.specs.declared.command.Command.{Command}
 use Rattle.script.specs.declared.command.Command.TheVariants as command

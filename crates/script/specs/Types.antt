@@ -3,14 +3,12 @@ use Rattle.std.specs.Prelude.{ℕ, cond, [], ◌∷◌, Some, None, Option, ◌=
 use Rattle.std.specs.Option.{option_map}
 use Rattle.terms.specs.declared.row.Item.{Item}
 use Rattle.terms.specs.declared.row.Item.TheVariants.{Name, Variable}
-use Rattle.theory.specs.declared.data.Argument.{Argument}
-use Rattle.theory.specs.declared.data.Params.{Params}
-use Rattle.theory.specs.declared.data.Params.TheVariants as params
+use Rattle.theory.specs.Data.{Argument}
+use Rattle.layouts.specs.declared.layout.Params.{Params}
+use Rattle.layouts.specs.declared.layout.Params.TheVariants as params
 use Rattle.theory.specs.declared.data.Slot.{Slot}
 use Rattle.theory.specs.declared.data.Slot.TheVariants as slot
-use Rattle.theory.specs.declared.data.Slots.{Slots}
-use Rattle.theory.specs.declared.data.Slots.TheVariants as slots
-use Rattle.theory.specs.declared.data.Ty.{Ty}
+use Rattle.theory.specs.Data.{Ty}
 use Rattle.script.specs.Lists.{Word, name_of}
 use Rattle.script.specs.Numbers.{number_up_to}
 
@@ -55,11 +53,11 @@ abbrev pub one_or_two : {X P : Type 0} → (Word → Option X) → (X → P) →
 one_or_two reads one two w None = option_map one (reads w)
 one_or_two reads one two w (Some p) = both two (reads p.0) (reads p.1)
 
-abbrev pub item_parameters : Word → Option Params
+abbrev pub item_parameters : Word → Option (Params Item)
 item_parameters w = one_or_two item_parameter params.One params.Two w (cut 58 w)
 
-abbrev pub slot_parameters : Word → Option Slots
-slot_parameters w = one_or_two slot_parameter slots.One slots.Two w (cut 58 w)
+abbrev pub slot_parameters : Word → Option (Params Slot)
+slot_parameters w = one_or_two slot_parameter params.One params.Two w (cut 58 w)
 
 -- A family (of 8 bits) alone, or with its parameters.
 abbrev pub with_family : {P T : Type 0} → (ℕ → P → T) → P → (Word → Option P) → Word → Option (Word × Word) → Option T
@@ -70,4 +68,4 @@ abbrev pub type_of : Word → Option Ty
 type_of w = with_family (λ F ps. record { family = F; params = ps }) params.Zero item_parameters w (cut 58 w)
 
 abbrev pub argument_of : Word → Option Argument
-argument_of w = with_family (λ F ps. record { family = F; params = ps }) slots.Zero slot_parameters w (cut 58 w)
+argument_of w = with_family (λ F ps. record { family = F; params = ps }) params.Zero slot_parameters w (cut 58 w)

@@ -2,10 +2,11 @@ ghost use Rattle.std.specs.Prelude.{◌≡◌, ◌<◌};
 ghost use Rattle.std.specs.Option.{option_map};
 ghost use Rattle.script.specs.Types.{cut, after, item_parameter, item_parameters, type_of, slot_parameter, slot_parameters, argument_of};
 
+use layouts::layout::Params;
 use crate::numbers::read_number;
 use crate::readable::Readable;
 use terms::row::Item;
-use theory::data::{Argument, Params, Slot, Slots, Ty};
+use theory::data::{Argument, Slot, Ty};
 
 /// The word before and after its first colon.
 fn cut_colon(word: &str) -> Option<(&str, &str)>
@@ -33,7 +34,7 @@ fn read_parameter(word: &str) -> Option<Item>
 }
 
 /// One parameter, or two with a colon between them.
-fn read_parameters(word: &str) -> Option<Params>
+fn read_parameters(word: &str) -> Option<Params<Item>>
     ensures { result ≡ item_parameters word.now }
 {
     match cut_colon(word) {
@@ -70,12 +71,12 @@ fn read_slot(word: &str) -> Option<Slot>
 }
 
 /// One such parameter, or two with a colon between them.
-fn read_slots(word: &str) -> Option<Slots>
+fn read_slots(word: &str) -> Option<Params<Slot>>
     ensures { result ≡ slot_parameters word.now }
 {
     match cut_colon(word) {
-        Some((first, second)) => Some(Slots::Two(read_slot(first)?, read_slot(second)?)),
-        None => Some(Slots::One(read_slot(word)?)),
+        Some((first, second)) => Some(Params::Two(read_slot(first)?, read_slot(second)?)),
+        None => Some(Params::One(read_slot(word)?)),
     }
 }
 
@@ -92,7 +93,7 @@ impl Readable for Argument {
             }
             None => Some(Argument {
                 family: read_number(word, 255)? as u8,
-                params: Slots::Zero,
+                params: Params::Zero,
             }),
         }
     }

@@ -1,7 +1,9 @@
+pub mod Numbered
 pub mod Terms
 pub mod Rows
 pub mod Faults
 pub mod Books
 pub mod Held
+pub mod Filling
 pub mod Adding
 pub mod Standing

@@ -4,6 +4,7 @@ ghost use Rattle.terms.specs.Books.{is_book};
 use crate::row::Row;
 
 mod calls;
+pub mod marking;
 
 /// The most rows that a theory's book has.
 pub const MAX_ROWS: usize = 512;

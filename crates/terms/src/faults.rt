@@ -1,9 +1,10 @@
-ghost use Rattle.std.specs.Prelude.{◌≡◌};
+ghost use Rattle.std.specs.Prelude.{◌≡◌, Some};
 ghost use Rattle.terms.specs.Faults.{refusal_of, reason_of};
 ghost use Rattle.terms.specs.declared.faults.BookFault.TheVariants.{NoMemory};
 
 use refusals::Refusal;
 use std::alloc::AllocFailed;
+use std::fmt;
 
 /// Why a row was not added.
 #[derive(Clone, Copy, PartialEq, Eq)]
@@ -20,12 +21,12 @@ pub enum BookFault {
     NoMemory,
 }
 
-impl BookFault {
-    /// The six numbers of the fault.
-    pub fn refusal(self) -> Refusal
-        ensures { result ≡ refusal_of self }
-    {
-        let number = match self {
+/// The six numbers of the fault.
+impl From<BookFault> for Refusal {
+    ghost from_gives = { λ f r. r ≡ refusal_of f };
+
+    fn from(fault: BookFault) -> Refusal {
+        let number = match fault {
             BookFault::NoMemory => 0,
             BookFault::OutOfRange => 1,
             BookFault::PartMissing => 2,
@@ -41,18 +42,20 @@ impl BookFault {
             row: 0,
         }
     }
+}
 
-    /// The reason in words.
-    pub fn reason(self) -> &'static str
-        ensures { result.now ≡ reason_of self }
-    {
-        match self {
+/// The reason in words.
+impl fmt::Display for BookFault {
+    ghost output = { λ f. Some (reason_of f) };
+
+    fn fmt<W: fmt::Write>(&self, f: &mut fmt::Formatter<W>) -> fmt::Result {
+        f.write_str(match self {
             BookFault::OutOfRange => "the item is out of range",
             BookFault::PartMissing => "a part or a key is no row",
             BookFault::KeyNotItem => "the key is no item",
             BookFault::Full => "the row is new and the book is full",
             BookFault::NoMemory => "there is no memory for the row",
-        }
+        })
     }
 }
 

@@ -3,6 +3,7 @@
 
 pub mod book;
 pub mod faults;
+pub mod places;
 pub mod row;
 
 #[cfg(test)]

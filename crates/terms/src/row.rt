@@ -1,7 +1,8 @@
+ghost use Rattle.std.specs.Prelude.{◌≡◌};
+ghost use Rattle.earliest.specs.Places.{earliest};
 ghost use Rattle.terms.specs.Rows.{same_row};
-ghost use Rattle.std.proofs.Common.{rules};
 
-use earliest::Same;
+use earliest::earliest_place;
 
 /// An atom of a term: a name or a variable.
 #[derive(Clone, Copy, PartialEq, Eq)]
@@ -24,16 +25,11 @@ pub enum Row {
     Lock { content: usize, key: usize },
 }
 
-impl Same for Row {
-    ghost same = { same_row };
-
-    ghost reflexive = { Prim.search rules };
-
-    ghost symmetric = { Prim.search rules };
-
-    ghost transitive = { Prim.search rules };
-
-    fn is_same(&self, other: &Row) -> bool {
-        *self == *other
+impl Row {
+    /// The place, counted from 0, of the earliest of the rows that equals this one.
+    pub fn place_in(self, rows: &[Row]) -> Option<usize>
+        ensures { result ≡ earliest same_row self rows.now }
+    {
+        earliest_place(rows, &self)
     }
 }

@@ -4,7 +4,7 @@ use Rattle.std.proofs.lemmas.List.{at_drop_more, at_drop_all}
 use Rattle.std.proofs.lemmas.Bool.{and_left}
 use Rattle.terms.specs.Rows.{is_row}
 use Rattle.theory.specs.Missing.{slots_there, arguments_there, rows_there}
-use Rattle.theory.specs.declared.data.Argument.{Argument}
+use Rattle.theory.specs.Data.{Argument}
 
 module _ (n : ℕ) (ks : List ℕ) (i : ℕ) (r : Bool) (inv : rows_there n (drop i ks) ≡ r) where
   pub rows_here : (d : ℕ) → i < length ks → false ≡ is_row n (get_or ks i d) → false ≡ r

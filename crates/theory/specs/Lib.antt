@@ -1,3 +1,4 @@
+pub mod Data
 pub mod Faults
 pub mod Counts
 pub mod Missing

@@ -4,15 +4,15 @@ use Rattle.refusals.specs.Walks.{Answer, pass, demand, and_then, walk}
 use Rattle.terms.specs.Held.{rows_of}
 use Rattle.terms.specs.Rows.{is_row}
 use Rattle.theory.specs.Counts.{same, here}
-use Rattle.theory.specs.declared.data.Argument.{Argument}
+use Rattle.theory.specs.Data.{Argument}
 use Rattle.theory.specs.declared.data.Fact.{Fact}
 use Rattle.theory.specs.declared.data.Predicate.{Predicate}
 use Rattle.theory.specs.declared.data.Role.{Role}
 use Rattle.theory.specs.declared.data.Rule.{Rule}
 use Rattle.theory.specs.declared.data.Slot.{Slot}
 use Rattle.theory.specs.declared.data.Slot.TheVariants as slot
-use Rattle.theory.specs.declared.data.Slots.{Slots}
-use Rattle.theory.specs.declared.data.Slots.TheVariants as slots
+use Rattle.layouts.specs.declared.layout.Params.{Params}
+use Rattle.layouts.specs.declared.layout.Params.TheVariants as params
 use Rattle.theory.specs.declared.data.Symbol.{Symbol}
 use Rattle.theory.specs.declared.data.Symbol.TheVariants as symbol
 use Rattle.theory.specs.declared.data.Theory.{Theory}
@@ -26,10 +26,10 @@ abbrev pub slot_there : ℕ → Slot → Bool
 slot_there earlier (slot.Name n) = true
 slot_there earlier (slot.Place p) = is_row earlier p
 
-abbrev pub slots_there : ℕ → Slots → Bool
-slots_there earlier slots.Zero = true
-slots_there earlier (slots.One p) = slot_there earlier p
-slots_there earlier (slots.Two p q) = slot_there earlier p && slot_there earlier q
+abbrev pub slots_there : ℕ → Params Slot → Bool
+slots_there earlier params.Zero = true
+slots_there earlier (params.One p) = slot_there earlier p
+slots_there earlier (params.Two p q) = slot_there earlier p && slot_there earlier q
 
 -- Each argument type names earlier places only; so many arguments come before the first.
 abbrev pub arguments_there : ℕ → List Argument → Bool

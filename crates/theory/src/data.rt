@@ -1,19 +1,12 @@
+use layouts::layout::Params;
 use terms::book::Book;
 use terms::row::Item;
 
-/// The parameters of a type.
+/// A type: a family of the layout, and its parameters, which are items.
 #[derive(Clone, Copy, PartialEq, Eq)]
-pub enum Params {
-    Zero,
-    One(Item),
-    Two(Item, Item),
-}
-
-/// A type: a family of the layout, and its parameters.
-#[derive(Clone, Copy, PartialEq, Eq)]
-pub struct Ty {
+pub struct Ty<P = Item> {
     pub family: u8,
-    pub params: Params,
+    pub params: Params<P>,
 }
 
 /// A declared name with its type.
@@ -31,20 +24,8 @@ pub enum Slot {
     Place(usize),
 }
 
-/// The parameters of an argument's type.
-#[derive(Clone, Copy)]
-pub enum Slots {
-    Zero,
-    One(Slot),
-    Two(Slot, Slot),
-}
-
 /// The type of an argument, which may depend on earlier arguments.
-#[derive(Clone, Copy)]
-pub struct Argument {
-    pub family: u8,
-    pub params: Slots,
-}
+pub type Argument = Ty<Slot>;
 
 /// A memory or role predicate, by the types of its arguments.
 #[derive(Drop)]

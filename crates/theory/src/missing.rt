@@ -2,7 +2,8 @@ ghost use Rattle.std.specs.Prelude.{◌≡◌, ◌+◌, ◌^◌, ◌<◌, length
 ghost use Rattle.terms.specs.Rows.{is_row};
 ghost use Rattle.theory.specs.Missing.{slot_there, slots_there, arguments_there, symbol_there, rows_there, fact_there, predicates_missing, facts_missing, rule_missing, rules_missing, role_missing, roles_missing, missing_check};
 
-use crate::data::{Argument, Fact, Predicate, Role, Rule, Slot, Slots, Symbol, Theory};
+use layouts::layout::Params;
+use crate::data::{Argument, Fact, Predicate, Role, Rule, Slot, Symbol, Theory};
 use crate::faults::{Flaw, TableFault};
 
 /// How many rows and predicates a fact can name; `own` is `None` where no role is told.
@@ -30,13 +31,13 @@ fn is_slot_there(earlier: usize, slot: Slot) -> bool
     }
 }
 
-fn are_slots_there(earlier: usize, slots: Slots) -> bool
+fn are_slots_there(earlier: usize, slots: Params<Slot>) -> bool
     ensures { result ≡ slots_there earlier slots }
 {
     match slots {
-        Slots::Zero => true,
-        Slots::One(p) => is_slot_there(earlier, p),
-        Slots::Two(p, q) => is_slot_there(earlier, p) && is_slot_there(earlier, q),
+        Params::Zero => true,
+        Params::One(p) => is_slot_there(earlier, p),
+        Params::Two(p, q) => is_slot_there(earlier, p) && is_slot_there(earlier, q),
     }
 }
 

@@ -24,11 +24,11 @@ use Rattle.types.proofs.Ruled.{variable_passes, variables_pass}
 use Rattle.types.proofs.Predicated.{arguments_pass, first_decides}
 use Rattle.types.proofs.Theoried.{owner_formed}
 use Rattle.terms.specs.declared.row.Item.TheVariants.{Name}
-use Rattle.theory.specs.declared.data.Ty.{Ty}
+use Rattle.theory.specs.Data.{Ty}
 use Rattle.terms.specs.declared.row.Row.{Row}
 use Rattle.theory.specs.declared.data.Declared.{Declared}
 use Rattle.theory.specs.declared.owner.Owner.TheVariants.{Nobody}
-use Rattle.theory.specs.declared.data.Argument.{Argument}
+use Rattle.theory.specs.Data.{Argument}
 use Rattle.theory.specs.declared.data.Predicate.{Predicate}
 use Rattle.theory.specs.declared.data.Symbol.{Symbol}
 use Rattle.theory.specs.declared.data.Fact.{Fact}

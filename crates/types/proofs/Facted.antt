@@ -20,8 +20,8 @@ use Rattle.terms.specs.declared.row.Item.{Item}
 use Rattle.theory.specs.declared.owner.Owner.{Owner}
 use Rattle.terms.specs.declared.row.Row.{Row}
 use Rattle.theory.specs.declared.data.Slot.{Slot}
-use Rattle.theory.specs.declared.data.Slots.{Slots}
-use Rattle.theory.specs.declared.data.Argument.{Argument}
+use Rattle.layouts.specs.declared.layout.Params.{Params}
+use Rattle.theory.specs.Data.{Argument}
 use Rattle.types.specs.declared.faults.Ill.TheVariants.{Count, Undeclared, Lacks}
 use Rattle.judgments.specs.Substitutions.{the_item}
 use Rattle.judgments.specs.Contexts as judge
@@ -29,7 +29,7 @@ use Rattle.judgments.specs.Typing as typing
 use Rattle.judgments.specs.Rules as rules
 use Rattle.terms.specs.declared.row.Row.TheVariants as row
 use Rattle.theory.specs.declared.data.Slot.TheVariants as slot
-use Rattle.theory.specs.declared.data.Slots.TheVariants as slots
+use Rattle.layouts.specs.declared.layout.Params.TheVariants as params
 
 -- what has a type is known
 pub has_known : (lay : Meaning) (Γ : Context) (t : Term) (T : judge.Ty) → Has lay Γ t T → Known Γ t
@@ -110,10 +110,10 @@ module _ (lay : Meaning) (s : Declarations) (formed : Formed lay (context_of s))
       rw (some, is) (sym (ap the_item (term_at_map term refl args (p - 1)) ∙ the_item_is s.owner (row_at rows k) (term k) ((messages lay s formed rows).stand k))))
       (cases_Bool (eqb p 0))
 
-  filled_is : (args : List ℕ) (ps : Slots) → map (item_of s.owner) (items (filled rows args ps)) ≡ map (meant (map term args)) (map slot_of (slot_list ps))
-  filled_is args slots.Zero = refl
-  filled_is args (slots.One p) = ap (λ x. x ∷ []) (slot_is args p)
-  filled_is args (slots.Two p q) = ap₂ (λ x y. x ∷ y ∷ []) (slot_is args p) (slot_is args q)
+  filled_is : (args : List ℕ) (ps : Params Slot) → map (item_of s.owner) (items (filled rows args ps)) ≡ map (meant (map term args)) (map slot_of (slot_list ps))
+  filled_is args params.Zero = refl
+  filled_is args (params.One p) = ap (λ x. x ∷ []) (slot_is args p)
+  filled_is args (params.Two p q) = ap₂ (λ x y. x ∷ y ∷ []) (slot_is args p) (slot_is args q)
 
   pub argument_decides : (args : List ℕ) (k : ℕ) (A : Argument) →
       Decides (has_type s rows (marks lay s rows) k (argument_type rows args A)) (Has lay Γ (term k) (judge.ty A.family (map (meant (map term args)) (map slot_of (slot_list A.params)))))

@@ -10,7 +10,7 @@ use Rattle.theory.specs.Owners.{owner_item, item_of}
 use Rattle.types.specs.Judged.{type_of, declare, name_decl, variable_decl, with_owner, context_of}
 use Rattle.terms.specs.declared.row.Item.{Item}
 use Rattle.terms.specs.declared.row.Item.TheVariants.{Name, Variable}
-use Rattle.theory.specs.declared.data.Ty.{Ty}
+use Rattle.theory.specs.Data.{Ty}
 use Rattle.theory.specs.declared.data.Declared.{Declared}
 use Rattle.theory.specs.declared.owner.Owner.{Owner}
 use Rattle.theory.specs.declared.owner.Owner.TheVariants.{Nobody, Generic, Anchored}

@@ -18,7 +18,7 @@ use Rattle.types.proofs.Rowed.{never_zero}
 use Rattle.terms.specs.declared.row.Item.TheVariants.{Name}
 use Rattle.theory.specs.declared.data.Declared.{Declared}
 use Rattle.theory.specs.declared.data.Slot.{Slot}
-use Rattle.theory.specs.declared.data.Argument.{Argument}
+use Rattle.theory.specs.Data.{Argument}
 use Rattle.theory.specs.declared.data.Predicate.{Predicate}
 use Rattle.types.specs.declared.faults.Ill.TheVariants.{Unformed, NoPrincipal}
 use Rattle.judgments.specs.Rules as rules

@@ -21,7 +21,7 @@ use Rattle.refusals.proofs.Deciding.{decides_and, decides_same, decides_as, deci
 use Rattle.types.proofs.Found.{found_declared}
 use Rattle.types.proofs.Signatures.{found_is}
 use Rattle.terms.specs.declared.row.Item.{Item}
-use Rattle.theory.specs.declared.data.Ty.{Ty}
+use Rattle.theory.specs.Data.{Ty}
 use Rattle.theory.specs.declared.owner.Owner.{Owner}
 use Rattle.terms.specs.declared.row.Row.{Row}
 use Rattle.judgments.specs.Substitutions.{the_item}

@@ -18,7 +18,7 @@ use Rattle.refusals.proofs.Deciding.{demand_passes, passes_always, passes_as, th
 use Rattle.types.proofs.Found.{declare_cases}
 use Rattle.types.proofs.Signatures.{declare_push, type_formed_decides}
 use Rattle.types.proofs.Facted.{fact_passes}
-use Rattle.theory.specs.declared.data.Ty.{Ty}
+use Rattle.theory.specs.Data.{Ty}
 use Rattle.theory.specs.declared.data.Declared.{Declared}
 use Rattle.theory.specs.declared.owner.Owner.{Owner}
 use Rattle.theory.specs.declared.owner.Owner.TheVariants.{Nobody, Generic, Anchored}

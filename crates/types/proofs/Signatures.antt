@@ -14,7 +14,7 @@ use Rattle.refusals.proofs.Deciding.{decides_and, decides_lt, decides_same, deci
 use Rattle.types.proofs.Found.{found_declared, declared_found}
 use Rattle.terms.specs.declared.row.Item.{Item}
 use Rattle.terms.specs.declared.row.Item.TheVariants.{Name}
-use Rattle.theory.specs.declared.data.Ty.{Ty}
+use Rattle.theory.specs.Data.{Ty}
 use Rattle.theory.specs.declared.data.Declared.{Declared}
 use Rattle.theory.specs.declared.owner.Owner.TheVariants.{Nobody}
 use Rattle.types.specs.declared.faults.Ill.TheVariants.{Taken, Unformed}

@@ -5,11 +5,11 @@ use Rattle.std.proofs.lemmas.Bool.{ne_eqb, and_left}
 use Rattle.refusals.specs.Walks.{Answer, demand}
 use Rattle.types.specs.Scopes.{Declarations, type_in}
 use Rattle.theory.specs.declared.data.Declared.{Declared}
-use Rattle.theory.specs.declared.data.Ty.{Ty}
+use Rattle.theory.specs.Data.{Ty}
 use Rattle.types.specs.Rows.{at, fill}
 use Rattle.types.specs.Messages.{has_type}
 use Rattle.types.specs.Facts.{Ledger, all_flags, argument_type, arguments_check}
-use Rattle.theory.specs.declared.data.Argument.{Argument}
+use Rattle.theory.specs.Data.{Argument}
 use Rattle.types.specs.declared.faults.Ill.{Ill}
 use Rattle.types.specs.declared.faults.Ill.TheVariants.{Lacks}
 use Rattle.terms.specs.declared.row.Row.{Row}

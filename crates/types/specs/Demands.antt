@@ -17,11 +17,11 @@ use Rattle.types.specs.Predicates.{at_spot}
 use Rattle.types.specs.Rules.{Place, over, predicate_at, a_message, same}
 use Rattle.types.specs.Theories.{here, place_of}
 use Rattle.types.specs.Typed.{takes, signature, AnchorTyped}
-use Rattle.theory.specs.declared.data.Ty.{Ty}
+use Rattle.theory.specs.Data.{Ty}
 use Rattle.terms.specs.declared.row.Row.{Row}
 use Rattle.theory.specs.declared.data.Declared.{Declared}
 use Rattle.theory.specs.declared.owner.Owner.TheVariants.{Nobody}
-use Rattle.theory.specs.declared.data.Argument.{Argument}
+use Rattle.theory.specs.Data.{Argument}
 use Rattle.theory.specs.declared.data.Predicate.{Predicate}
 use Rattle.theory.specs.declared.data.Symbol.{Symbol}
 use Rattle.theory.specs.declared.data.Fact.{Fact}

@@ -7,19 +7,17 @@ use Rattle.types.specs.Messages.{key_type, marks, has_type}
 use Rattle.refusals.specs.Walks.{Answer, pass, demand}
 use Rattle.terms.specs.declared.row.Item.{Item}
 use Rattle.terms.specs.declared.row.Item.TheVariants.{Name}
-use Rattle.theory.specs.declared.data.Params.{Params}
-use Rattle.theory.specs.declared.data.Ty.{Ty}
+use Rattle.layouts.specs.declared.layout.Params.{Params}
+use Rattle.theory.specs.Data.{Ty}
 use Rattle.terms.specs.declared.row.Row.{Row}
 use Rattle.theory.specs.declared.data.Slot.{Slot}
-use Rattle.theory.specs.declared.data.Slots.{Slots}
-use Rattle.theory.specs.declared.data.Argument.{Argument}
+use Rattle.theory.specs.Data.{Argument}
 use Rattle.types.specs.declared.scope.Marked.{Marked}
 use Rattle.types.specs.declared.faults.Ill.{Ill}
 use Rattle.types.specs.declared.faults.Ill.TheVariants.{Count, Undeclared, Lacks}
-use Rattle.theory.specs.declared.data.Params.TheVariants as params
+use Rattle.layouts.specs.declared.layout.Params.TheVariants as params
 use Rattle.terms.specs.declared.row.Row.TheVariants as row
 use Rattle.theory.specs.declared.data.Slot.TheVariants as slot
-use Rattle.theory.specs.declared.data.Slots.TheVariants as slots
 
 -- whether all items in a row's term are declared, by the rows before it and their flags
 abbrev pub known_of : Declarations → List Row → List Bool → Row → Bool
@@ -59,10 +57,10 @@ abbrev pub slot_item : List Row → List ℕ → Slot → Item
 slot_item rows args (slot.Name n) = Name n
 slot_item rows args (slot.Place p) = item_in (row_at rows (at 0 args p))
 
-abbrev pub filled : List Row → List ℕ → Slots → Params
-filled rows args slots.Zero = params.Zero
-filled rows args (slots.One p) = params.One (slot_item rows args p)
-filled rows args (slots.Two p q) = params.Two (slot_item rows args p) (slot_item rows args q)
+abbrev pub filled : List Row → List ℕ → Params Slot → Params Item
+filled rows args params.Zero = params.Zero
+filled rows args (params.One p) = params.One (slot_item rows args p)
+filled rows args (params.Two p q) = params.Two (slot_item rows args p) (slot_item rows args q)
 
 abbrev pub argument_type : List Row → List ℕ → Argument → Ty
 argument_type rows args A = record { family = A.family; params = filled rows args A.params }

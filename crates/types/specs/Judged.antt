@@ -6,17 +6,17 @@ use Rattle.theory.specs.Owners.{item_of}
 use Rattle.types.specs.Scopes.{Declarations}
 use Rattle.types.specs.Types.{items}
 use Rattle.terms.specs.declared.row.Item.TheVariants.{Name, Variable}
-use Rattle.theory.specs.declared.data.Ty.{Ty}
+use Rattle.theory.specs.Data.{Ty}
 use Rattle.theory.specs.declared.data.Declared.{Declared}
 use Rattle.theory.specs.declared.data.Slot.{Slot}
-use Rattle.theory.specs.declared.data.Slots.{Slots}
-use Rattle.theory.specs.declared.data.Argument.{Argument}
+use Rattle.layouts.specs.declared.layout.Params.{Params}
+use Rattle.theory.specs.Data.{Argument}
 use Rattle.theory.specs.declared.owner.Owner.{Owner}
 use Rattle.theory.specs.declared.owner.Owner.TheVariants.{Nobody, Generic, Anchored}
 use Rattle.judgments.specs.Contexts as judge
 use Rattle.judgments.specs.Rules as rules
 use Rattle.theory.specs.declared.data.Slot.TheVariants as slot
-use Rattle.theory.specs.declared.data.Slots.TheVariants as slots
+use Rattle.layouts.specs.declared.layout.Params.TheVariants as params
 
 abbrev pub type_of : Owner → Ty → judge.Ty
 type_of o T = judge.ty T.family (map (item_of o) (items T.params))
@@ -45,10 +45,10 @@ abbrev pub slot_of : Slot → Place
 slot_of (slot.Name n) = named n
 slot_of (slot.Place p) = cond (p == 0) (named 0) (place (p - 1))
 
-abbrev pub slot_list : Slots → List Slot
-slot_list slots.Zero = []
-slot_list (slots.One p) = p ∷ []
-slot_list (slots.Two p q) = p ∷ q ∷ []
+abbrev pub slot_list : Params Slot → List Slot
+slot_list params.Zero = []
+slot_list (params.One p) = p ∷ []
+slot_list (params.Two p q) = p ∷ q ∷ []
 
 abbrev pub argument_of : Argument → rules.Argument
 argument_of A = rules.of_type A.family (map slot_of (slot_list A.params))

@@ -6,7 +6,7 @@ use Rattle.types.specs.Types.{items}
 use Rattle.theory.specs.Owners.{item_of}
 use Rattle.types.specs.Rows.{at, row_at, fill}
 use Rattle.terms.specs.declared.row.Item.{Item}
-use Rattle.theory.specs.declared.data.Ty.{Ty}
+use Rattle.theory.specs.Data.{Ty}
 use Rattle.theory.specs.declared.owner.Owner.{Owner}
 use Rattle.terms.specs.declared.row.Row.{Row}
 use Rattle.terms.specs.declared.row.Item.TheVariants.{Name, Variable}

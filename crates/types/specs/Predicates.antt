@@ -8,7 +8,7 @@ use Rattle.types.specs.Judged.{slot_list}
 use Rattle.refusals.specs.Walks.{Answer, pass, demand, and_then, walk}
 use Rattle.theory.specs.declared.data.Declared.{Declared}
 use Rattle.theory.specs.declared.data.Slot.{Slot}
-use Rattle.theory.specs.declared.data.Argument.{Argument}
+use Rattle.theory.specs.Data.{Argument}
 use Rattle.theory.specs.declared.data.Predicate.{Predicate}
 use Rattle.types.specs.declared.faults.Ill.{Ill}
 use Rattle.types.specs.declared.faults.Ill.TheVariants.{Unformed, NoPrincipal}

@@ -7,11 +7,11 @@ use Rattle.types.specs.Types.{type_formed}
 use Rattle.refusals.specs.Walks.{Answer, pass, demand, and_then, walk}
 use Rattle.types.specs.Facts.{Ledger, ledger, fact_check}
 use Rattle.types.specs.Predicates.{at_spot}
-use Rattle.theory.specs.declared.data.Ty.{Ty}
+use Rattle.theory.specs.Data.{Ty}
 use Rattle.terms.specs.declared.row.Row.{Row}
 use Rattle.theory.specs.declared.data.Declared.{Declared}
 use Rattle.theory.specs.declared.owner.Owner.{Owner}
-use Rattle.theory.specs.declared.data.Argument.{Argument}
+use Rattle.theory.specs.Data.{Argument}
 use Rattle.theory.specs.declared.data.Predicate.{Predicate}
 use Rattle.theory.specs.declared.data.Symbol.{Symbol}
 use Rattle.theory.specs.declared.data.Fact.{Fact}
@@ -20,7 +20,7 @@ use Rattle.types.specs.declared.scope.Setting.{Setting}
 use Rattle.types.specs.declared.faults.Ill.{Ill}
 use Rattle.types.specs.declared.faults.Ill.TheVariants.{Unformed, Count}
 use Rattle.types.specs.declared.faults.TypeFault.{TypeFault}
-use Rattle.theory.specs.declared.data.Slots.TheVariants as slots
+use Rattle.layouts.specs.declared.layout.Params.TheVariants as params
 use Rattle.theory.specs.declared.data.Symbol.TheVariants as symbol
 
 -- what a rule is checked in, and its numbers
@@ -54,7 +54,7 @@ listed_fact s l None args = Err Count
 listed_fact s l (Some P) args = fact_check s l (vec_items P.arguments) args
 
 abbrev pub a_message : Argument
-a_message = record { family = 0; params = slots.Zero }
+a_message = record { family = 0; params = params.Zero }
 
 abbrev pub symbol_check : Declarations → Ledger → Place → Symbol → List ℕ → Answer Ill
 symbol_check s l e symbol.Network args = fact_check s l (a_message ∷ []) args

@@ -3,8 +3,8 @@ use Rattle.std.specs.Prelude.{ℕ, ◌-◌, cond, List, [], ◌∷◌, ◌++◌,
 use Rattle.std.specs.List.{slice_get}
 use Rattle.terms.specs.declared.row.Item.{Item}
 use Rattle.terms.specs.declared.row.Item.TheVariants.{Name, Variable}
-use Rattle.theory.specs.declared.data.Params.TheVariants.{Zero}
-use Rattle.theory.specs.declared.data.Ty.{Ty}
+use Rattle.layouts.specs.declared.layout.Params.TheVariants.{Zero}
+use Rattle.theory.specs.Data.{Ty}
 use Rattle.theory.specs.declared.data.Declared.{Declared}
 use Rattle.theory.specs.declared.owner.Owner.{Owner}
 use Rattle.theory.specs.declared.owner.Owner.TheVariants.{Nobody, Generic, Anchored}

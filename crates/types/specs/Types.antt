@@ -3,9 +3,9 @@ use Rattle.std.specs.Prelude.{ℕ, Bool, true, false, ◌&&◌, List, [], ◌∷
 use Rattle.layouts.specs.Meanings.{Meaning}
 use Rattle.types.specs.Scopes.{Declarations, scope_type}
 use Rattle.terms.specs.declared.row.Item.{Item}
-use Rattle.theory.specs.declared.data.Params.{Params}
-use Rattle.theory.specs.declared.data.Params.TheVariants.{Zero, One, Two}
-use Rattle.theory.specs.declared.data.Ty.{Ty}
+use Rattle.layouts.specs.declared.layout.Params.{Params}
+use Rattle.layouts.specs.declared.layout.Params.TheVariants.{Zero, One, Two}
+use Rattle.theory.specs.Data.{Ty}
 
 abbrev pub has_family : Option Ty → ℕ → Bool
 has_family None F = false
@@ -14,7 +14,7 @@ has_family (Some T) F = T.family == F
 abbrev pub suited : Declarations → Item → ℕ → Bool
 suited s i F = has_family (scope_type s i) F
 
-abbrev pub items : Params → List Item
+abbrev pub items : Params Item → List Item
 items Zero = []
 items (One p) = p ∷ []
 items (Two p q) = p ∷ q ∷ []

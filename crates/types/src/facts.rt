@@ -3,12 +3,13 @@ ghost use Rattle.types.specs.Scopes.{scope_of};
 ghost use Rattle.types.specs.Rows.{at};
 ghost use Rattle.types.specs.Facts.{ledger_of, known_of, knowns, all_flags, slot_item, argument_type, arguments_check, fact_check};
 
+use layouts::layout::Params;
 use crate::faults::Ill;
 use crate::names::item_type;
 use crate::rows::{has_type, marked, row, row_type};
 use crate::scope::{Marked, Scope};
 use terms::row::{Item, Row};
-use theory::data::{Argument, Params, Slot, Slots, Ty};
+use theory::data::{Argument, Slot, Ty};
 
 /// Whether all items in a row's term are declared, told of which rows before it they are.
 fn is_known(scope: Scope, before: &[Row], flags: &[bool], row: Row) -> bool
@@ -71,9 +72,9 @@ fn argument_type(rows: &[Row], args: &[usize], argument: Argument) -> Ty
     ensures { result ≡ argument_type rows.now args.now argument }
 {
     let params = match argument.params {
-        Slots::Zero => Params::Zero,
-        Slots::One(p) => Params::One(slot_item(rows, args, p)),
-        Slots::Two(p, q) => Params::Two(slot_item(rows, args, p), slot_item(rows, args, q)),
+        Params::Zero => Params::Zero,
+        Params::One(p) => Params::One(slot_item(rows, args, p)),
+        Params::Two(p, q) => Params::Two(slot_item(rows, args, p), slot_item(rows, args, q)),
     };
     Ty {
         family: argument.family,

@@ -8,9 +8,9 @@ ghost use Rattle.judgments.specs.Typing.{Formed};
 
 use crate::faults::{Ill, TypeFault};
 use crate::scope::Scope;
-use layouts::layout::{Layout, Parameters};
+use layouts::layout::{Layout, Params};
 use terms::row::Item;
-use theory::data::{Declared, Params, Ty};
+use theory::data::{Declared, Ty};
 use theory::owner::Owner;
 
 /// The type of a declared name.
@@ -69,9 +69,9 @@ pub(crate) fn is_formed<L: Layout>(layout: &L, scope: Scope, of: Ty) -> bool
         return false;
     }
     match (of.params, layout.parameters(of.family)) {
-        (Params::Zero, Parameters::Zero) => true,
-        (Params::One(p), Parameters::One(f)) => is_of(scope, p, f),
-        (Params::Two(p, q), Parameters::Two(f, g)) => is_of(scope, p, f) && is_of(scope, q, g),
+        (Params::Zero, Params::Zero) => true,
+        (Params::One(p), Params::One(f)) => is_of(scope, p, f),
+        (Params::Two(p, q), Params::Two(f, g)) => is_of(scope, p, f) && is_of(scope, q, g),
         _ => false,
     }
 }

@@ -3,8 +3,8 @@ ghost use Rattle.types.specs.Predicates.{slot_suited, argument_formed, arguments
 
 use crate::faults::{Ill, TypeFault};
 use crate::names::name_type;
-use layouts::layout::{Layout, Parameters};
-use theory::data::{Argument, Declared, Predicate, Slot, Slots};
+use layouts::layout::{Layout, Params};
+use theory::data::{Argument, Declared, Predicate, Slot};
 
 /// Whether a parameter is of a family: a declared name, or an earlier argument.
 fn is_slot_of(names: &[Declared], earlier: &[Argument], slot: Slot, family: u8) -> bool
@@ -36,9 +36,9 @@ fn is_argument_formed<L: Layout>(
         return false;
     }
     match (argument.params, layout.parameters(argument.family)) {
-        (Slots::Zero, Parameters::Zero) => true,
-        (Slots::One(p), Parameters::One(f)) => is_slot_of(names, earlier, p, f),
-        (Slots::Two(p, q), Parameters::Two(f, g)) => is_slot_of(names, earlier, p, f)
+        (Params::Zero, Params::Zero) => true,
+        (Params::One(p), Params::One(f)) => is_slot_of(names, earlier, p, f),
+        (Params::Two(p, q), Params::Two(f, g)) => is_slot_of(names, earlier, p, f)
             && is_slot_of(names, earlier, q, g),
         _ => false,
     }

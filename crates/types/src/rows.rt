@@ -5,9 +5,9 @@ ghost use Rattle.types.specs.Messages.{is_msg, sends, key_type, seals, locks, ma
 
 use crate::names::item_type;
 use crate::scope::Scope;
-use layouts::layout::{Kind, Layout};
+use layouts::layout::{Kind, Layout, Params};
 use terms::row::{Item, Row};
-use theory::data::{Params, Ty};
+use theory::data::Ty;
 use theory::owner::Owner;
 
 /// The most rows that a theory's book has.

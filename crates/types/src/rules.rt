@@ -9,8 +9,8 @@ use crate::faults::{Ill, TypeFault};
 use crate::names::is_formed;
 use crate::rows::mark_messages;
 use crate::scope::{Marked, Scope, Setting};
-use layouts::layout::Layout;
-use theory::data::{Argument, Fact, Predicate, Rule, Slots, Symbol, Ty};
+use layouts::layout::{Layout, Params};
+use theory::data::{Argument, Fact, Predicate, Rule, Symbol, Ty};
 
 /// Variables in order, after those before them.
 fn check_variables<'x, L: Layout>(
@@ -78,7 +78,7 @@ fn check_symbol(
         Symbol::Network => {
             let msg = Argument {
                 family: 0,
-                params: Slots::Zero,
+                params: Params::Zero,
             };
             check_fact(scope, book, &[msg], args)
         }

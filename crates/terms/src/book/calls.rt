@@ -8,8 +8,8 @@ ghost use Rattle.terms.specs.Standing.{Exact};
 
 use crate::book::{Book, MAX_ROWS};
 use crate::faults::BookFault;
+use crate::places::{is_number, numbered};
 use crate::row::{Item, Row};
-use earliest::earliest_place;
 use std::alloc::Global;
 
 /// The variables are 0 to 23.
@@ -32,11 +32,7 @@ impl Book {
         ensures value { result ≡ row_at (rows_of self.now) number }
         ensures exact { Exact (rows_of self.now) }
     {
-        if self.has(number) {
-            Some(self.rows[number - 1])
-        } else {
-            None
-        }
+        numbered(self.rows(), number).copied()
     }
 
     /// All rows, in order.
@@ -57,7 +53,7 @@ impl Book {
         ensures { Added (rows_of self.old) (capacity_of self.old) row (rows_of self.new) result }
     {
         self.admit(row)?;
-        if let Some(place) = earliest_place(self.rows(), &row) {
+        if let Some(place) = row.place_in(self.rows()) {
             return Ok(place + 1);
         }
         if self.rows.len() >= MAX_ROWS {
@@ -103,6 +99,6 @@ impl Book {
     fn has(&self, number: usize) -> bool
         ensures { result ≡ is_row (length (rows_of self.now)) number }
     {
-        0 < number && number <= self.rows.len()
+        is_number(self.rows.len(), number)
     }
 }

@@ -1,0 +1,37 @@
+ghost use Rattle.std.specs.Prelude.{◌≡◌, ◌+◌, ◌^◌, ◌<◌, length};
+ghost use Rattle.refusals.specs.Faults.{Walked};
+
+use crate::fault::Fault;
+
+/// Where the elements of a list stand: the role and the rule, counted from 1, and how many elements
+/// of other lists count before them.
+#[derive(Clone, Copy, PartialEq, Eq)]
+pub struct Place {
+    pub role: usize,
+    pub rule: usize,
+    pub before: usize,
+}
+
+/// Checks the elements one after the other, each told those before it; the first fault is told with
+/// its place.
+pub fn check_each<T, W, F: Fn(&[T], &T) -> Result<(), W>>(
+    items: &[T],
+    place: Place,
+    check: F,
+) -> Result<(), Fault<W>>
+    requires ready { F.IsAlwaysCallable check }
+    requires counted { place.before + length items.now < 2 ^ 64 }
+    ensures { Walked (F.post check) place items.now result }
+{
+    for (i, item) in items.iter().enumerate() {
+        if let Err(why) = check(&items[0..i], item) {
+            return Err(Fault {
+                role: place.role,
+                rule: place.rule,
+                spot: place.before + (i + 1),
+                why,
+            });
+        }
+    }
+    Ok(())
+}
