@@ -5,8 +5,6 @@
 ghost use Rattle.examples.specs.Starred.{All, starred};
 
 /// Each example of the list holds.
-pub fn starred_examples_hold() -> u8
+pub fn starred_examples_hold()
     ensures { All starred }
-{
-    0
-}
+{}

@@ -5,8 +5,6 @@
 ghost use Rattle.judgments.specs.Theorems.{DeclaredOnce};
 
 /// In a well-formed context no item has two types, and every declared type is well formed.
-pub fn contexts_are_regular() -> u8
+pub fn contexts_are_regular()
     ensures { DeclaredOnce }
-{
-    0
-}
+{}

@@ -12,6 +12,7 @@ pub enum AnyLayout {
     KeyServer(KeyServer),
 }
 
+// The layouts to choose from are a closed set and Copy: an enum is plainer than a boxed `dyn Layout`.
 impl Layout for AnyLayout {
     ghost meaning = { meaning_of };
 

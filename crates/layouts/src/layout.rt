@@ -2,6 +2,12 @@ ghost use Rattle.std.specs.Prelude.{◌≡◌};
 ghost use Rattle.layouts.specs.Meanings.{Meaning, listed};
 ghost use Rattle.layouts.specs.Laws.{Lawful};
 
+/// The family of msg, the type of what can be sent.
+pub const MSG: u8 = 0;
+
+/// The family of principals, the stations.
+pub const PRINCIPAL: u8 = 1;
+
 /// The parameters of a type, each told by a `P`: of a family by families, of a type by items.
 #[derive(Clone, Copy, PartialEq, Eq)]
 pub enum Params<P> {
