@@ -52,4 +52,4 @@ state_of d = record {
 
 -- At first: an empty theory, no initial facts, the report layout, an empty roll without a layer.
 abbrev pub empty : State
-empty = record { theory = nothing; initial = []; layout = any.Report record {}; source = reading []; layered = false; withheld = [] }
+empty = record { theory = nothing; initial = []; layout = any.Report; source = reading []; layered = false; withheld = [] }

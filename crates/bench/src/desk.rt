@@ -13,7 +13,6 @@ use crate::answer::Answer;
 use crate::faults::Fault;
 use crate::roles::{add_to_role, begun_role, put};
 use layouts::any::AnyLayout;
-use layouts::report::Report;
 use names::any::AnySource;
 use names::counter::Counter;
 use names::faults::ListFault;
@@ -49,6 +48,8 @@ pub struct Desk {
     initial: Vec<Fact>,
     layout: AnyLayout,
     source: Withholding<AnySource>,
+    // A flag, and no second type of source: the memory for the layer is taken with the source, so
+    // that `withholding` cannot fail for want of it.
     layered: bool,
 }
 
@@ -57,20 +58,15 @@ impl Desk {
     pub fn new(heap: Global) -> Result<Self, AllocError>
         ensures { IfOk result (λ d. state_of d ≡ empty) }
     {
-        let Ok(roll) = Roll::new(heap) else {
-            return Err(AllocError);
-        };
-        match Withholding::new(heap, AnySource::Roll(roll)) {
-            Ok(source) => Ok(Desk {
-                heap,
-                theory: blank(heap),
-                initial: Vec::new(heap),
-                layout: AnyLayout::Report(Report),
-                source,
-                layered: false,
-            }),
-            Err(_) => Err(AllocError),
-        }
+        let roll = Roll::new(heap).map_err(|_| AllocError)?;
+        Ok(Desk {
+            heap,
+            theory: blank(heap),
+            initial: Vec::new(heap),
+            layout: AnyLayout::Report,
+            source: Withholding::new(heap, AnySource::Roll(roll))?,
+            layered: false,
+        })
     }
 
     /// Answers a line of a script; `None` where the line is only echoed.

@@ -35,17 +35,16 @@ fn play<R: Read + Drop, W: Write + Drop>(
 fn main(rt: HostRuntime) -> io::Result<()> {
     let heap = rt.alloc();
     let mut out = BufWriter::new(heap, rt.stdout())?;
-    let mut named = false;
-    for script in env::args(&rt)?.skip(1) {
-        named = true;
+    let mut scripts = env::args(&rt)?.skip(1).peekable();
+    if scripts.peek().is_none() {
+        play(heap, rt.stdin(), &mut out)?;
+    }
+    for script in scripts {
         if script.as_str() == "-" {
             play(heap, rt.stdin(), &mut out)?;
         } else {
             play(heap, fs::open(&rt, script.as_str())?, &mut out)?;
         }
-    }
-    if !named {
-        play(heap, rt.stdin(), &mut out)?;
     }
     out.flush()
 }

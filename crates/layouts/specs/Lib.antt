@@ -3,7 +3,6 @@ pub mod Laws
 pub mod Tables
 pub mod Report
 pub mod KeyServer
-pub mod Any
 pub mod Codes
-pub mod Lawfulness
 pub mod Tabled
+pub mod Any

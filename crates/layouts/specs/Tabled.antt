@@ -5,7 +5,10 @@ use mathlib.Core.List.{Memᴰ}
 use Rattle.std.proofs.lemmas.List.{get_or_past}
 use Rattle.std.proofs.lemmas.Bool.{and_parts, or_cases, or_left, or_right, eqb-true, eq-eqb, ltb-true, leb-true}
 use Rattle.layouts.specs.Laws.{Lawful}
-use Rattle.layouts.specs.Tables.{Grant, nobody, everybody, first, either, of_first, Line, lacked, grants_by, line_at, meaning_by}
+use Rattle.layouts.specs.Tables.{lacked, grants_by, line_at, params_of, meaning_by}
+use Rattle.layouts.specs.declared.table.Grant.{Grant}
+use Rattle.layouts.specs.declared.table.Grant.TheVariants.{Nobody, Everybody, Either, OfFirst}
+use Rattle.layouts.specs.declared.table.Line.{Line}
 use Rattle.layouts.specs.declared.layout.Kind.{Kind}
 use Rattle.layouts.specs.declared.layout.Kind.TheVariants.{Plain, Sealing, Locking}
 
@@ -28,11 +31,10 @@ is_plain Sealing = false
 is_plain (Locking G) = false
 
 abbrev is_nobody : Grant → Bool
-is_nobody nobody = true
-is_nobody everybody = false
-is_nobody first = false
-is_nobody either = false
-is_nobody of_first = false
+is_nobody Nobody = true
+is_nobody Everybody = false
+is_nobody Either = false
+is_nobody OfFirst = false
 
 abbrev below : ℕ → List ℕ → Bool
 below F [] = true
@@ -41,20 +43,20 @@ below F (G ∷ Gs) = (nat_lt 0 G && nat_lt G F) && below F Gs
 abbrev opened : List Line → ℕ → Kind → Bool
 opened table F Plain = true
 opened table F Sealing = true
-opened table F (Locking G) = nat_lt G (length table) && only F (line_at table G).params
+opened table F (Locking G) = nat_lt G (length table) && only F (params_of (line_at table G))
 
 abbrev fits : List Line → ℕ → Line → Bool
-fits table F x = (nat_le (length x.params) 2 && below F x.params) && opened table F x.kind
+fits table F x = (nat_le (length (params_of x)) 2 && below F (params_of x)) && opened table F x.kind
 
 abbrev all_from : (ℕ → Line → Bool) → ℕ → List Line → Bool
 all_from P n [] = true
 all_from P n (x ∷ xs) = P n x && all_from P (n + 1) xs
 
 abbrev msg_line : Line → Bool
-msg_line x = (none x.params && is_plain x.kind) && is_nobody x.granted
+msg_line x = (none (params_of x) && is_plain x.kind) && is_nobody x.granted
 
 abbrev principal_line : Line → Bool
-principal_line x = (none x.params && is_plain x.kind) && x.sendable
+principal_line x = (none (params_of x) && is_plain x.kind) && x.sendable
 
 abbrev pub is_lawful : List Line → Bool
 is_lawful table = ((nat_lt 1 (length table) && nat_le (length table) 16) && (msg_line (line_at table 0) && principal_line (line_at table 1))) && all_from (fits table) 0 table
@@ -74,12 +76,11 @@ plain_is Plain e = refl
 plain_is Sealing e = clash (cc)
 plain_is (Locking G) e = clash (cc)
 
-nobody_is : (g : Grant) → is_nobody g ≡ true → g ≡ nobody
-nobody_is nobody e = refl
-nobody_is everybody e = clash (cc)
-nobody_is first e = clash (cc)
-nobody_is either e = clash (cc)
-nobody_is of_first e = clash (cc)
+nobody_is : (g : Grant) → is_nobody g ≡ true → g ≡ Nobody
+nobody_is Nobody e = refl
+nobody_is Everybody e = clash (cc)
+nobody_is Either e = clash (cc)
+nobody_is OfFirst e = clash (cc)
 
 below_is : (F : ℕ) (Gs : List ℕ) → below F Gs ≡ true → (G : ℕ) → Memᴰ G Gs → (0 < G) × (G < F)
 below_is F [] e G m = elim m [ ]
@@ -89,13 +90,13 @@ below_is F (H ∷ Gs) e G (Memᴰ.head s) =
     (omega (arith, ltb-true 0 H q.0), omega (arith, ltb-true H F q.1))
 below_is F (H ∷ Gs) e G (Memᴰ.tail m) = below_is F Gs (and_parts (nat_lt 0 H && nat_lt H F) (below F Gs) e).1 G m
 
-opened_is : (table : List Line) (F G : ℕ) (k : Kind) → opened table F k ≡ true → k ≡ Locking G → (G < length table) × ((line_at table G).params ≡ F ∷ [])
+opened_is : (table : List Line) (F G : ℕ) (k : Kind) → opened table F k ≡ true → k ≡ Locking G → (G < length table) × (params_of (line_at table G) ≡ F ∷ [])
 opened_is table F G Plain e l = clash (cc)
 opened_is table F G Sealing e l = clash (cc)
 opened_is table F G (Locking H) e l =
     let same : H ≡ G = cc in
-    let p = and_parts (nat_lt H (length table)) (only F (line_at table H).params) e in
-    subst (λ K. (K < length table) × ((line_at table K).params ≡ F ∷ [])) same (ltb-true H (length table) p.0, only_is F (line_at table H).params p.1)
+    let p = and_parts (nat_lt H (length table)) (only F (params_of (line_at table H))) e in
+    subst (λ K. (K < length table) × (params_of (line_at table K) ≡ F ∷ [])) same (ltb-true H (length table) p.0, only_is F (params_of (line_at table H)) p.1)
 
 all_at : (P : ℕ → Line → Bool) (n : ℕ) (xs : List Line) → all_from P n xs ≡ true → (k : ℕ) → k < length xs → P (n + k) (slice_index_or xs k lacked) ≡ true
 all_at P n [] e k h = let no : ⊥ = omega arith in absurd no
@@ -109,15 +110,14 @@ same_kept : (f : ℕ → ℕ) (a b : ℕ) → (a == b) ≡ true → (f a == f b)
 same_kept f a b e = eq-eqb (f a) (f b) (ap f (eqb-true a b e))
 
 grant_kept : (g : Grant) (f : ℕ → ℕ) (o a b c : ℕ) → grants_by g o a b c ≡ true → grants_by g (f o) (f a) (f b) (f c) ≡ true
-grant_kept nobody f o a b c e = e
-grant_kept everybody f o a b c e = e
-grant_kept first f o a b c e = same_kept f o a e
-grant_kept either f o a b c e =
+grant_kept Nobody f o a b c e = e
+grant_kept Everybody f o a b c e = e
+grant_kept Either f o a b c e =
     ⊎_elim
     (λ l. or_left (f o == f a) (f o == f b) (same_kept f o a l))
     (λ r. or_right (f o == f a) (f o == f b) (same_kept f o b r))
     (or_cases (o == a) (o == b) e)
-grant_kept of_first f o a b c e = same_kept f o c e
+grant_kept OfFirst f o a b c e = same_kept f o c e
 
 module _ (table : List Line) (test : is_lawful table ≡ true) where
   counts : (1 < length table) × (length table ≤ 16)
@@ -134,26 +134,26 @@ module _ (table : List Line) (test : is_lawful table ≡ true) where
   each : (F : ℕ) → F < length table → fits table F (line_at table F) ≡ true
   each F h = subst (λ m. fits table m (line_at table F) ≡ true) (zero-add F) (all_at (fits table) 0 table (and_parts _ (all_from (fits table) 0 table) test).1 F h)
 
-  msg : ((line_at table 0).params ≡ []) × ((line_at table 0).kind ≡ Plain) × ((line_at table 0).granted ≡ nobody)
+  msg : (params_of (line_at table 0) ≡ []) × ((line_at table 0).kind ≡ Plain) × ((line_at table 0).granted ≡ Nobody)
   msg =
       let x = line_at table 0 in
-      let p = and_parts (none x.params && is_plain x.kind) (is_nobody x.granted) begins.0 in
-      let q = and_parts (none x.params) (is_plain x.kind) p.0 in
-      (none_is x.params q.0, plain_is x.kind q.1, nobody_is x.granted p.1)
+      let p = and_parts (none (params_of x) && is_plain x.kind) (is_nobody x.granted) begins.0 in
+      let q = and_parts (none (params_of x)) (is_plain x.kind) p.0 in
+      (none_is (params_of x) q.0, plain_is x.kind q.1, nobody_is x.granted p.1)
 
-  principal : ((line_at table 1).params ≡ []) × ((line_at table 1).kind ≡ Plain) × ((line_at table 1).sendable ≡ true)
+  principal : (params_of (line_at table 1) ≡ []) × ((line_at table 1).kind ≡ Plain) × ((line_at table 1).sendable ≡ true)
   principal =
       let x = line_at table 1 in
-      let p = and_parts (none x.params && is_plain x.kind) x.sendable begins.1 in
-      let q = and_parts (none x.params) (is_plain x.kind) p.0 in
-      (none_is x.params q.0, plain_is x.kind q.1, p.1)
+      let p = and_parts (none (params_of x) && is_plain x.kind) x.sendable begins.1 in
+      let q = and_parts (none (params_of x)) (is_plain x.kind) p.0 in
+      (none_is (params_of x) q.0, plain_is x.kind q.1, p.1)
 
-  line : (F : ℕ) → F < length table → (length (line_at table F).params ≤ 2) × (below F (line_at table F).params ≡ true) × (opened table F (line_at table F).kind ≡ true)
+  line : (F : ℕ) → F < length table → (length (params_of (line_at table F)) ≤ 2) × (below F (params_of (line_at table F)) ≡ true) × (opened table F (line_at table F).kind ≡ true)
   line F h =
       let x = line_at table F in
-      let p = and_parts (nat_le (length x.params) 2 && below F x.params) (opened table F x.kind) (each F h) in
-      let q = and_parts (nat_le (length x.params) 2) (below F x.params) p.0 in
-      (leb-true (length x.params) 2 q.0, q.1, p.1)
+      let p = and_parts (nat_le (length (params_of x)) 2 && below F (params_of x)) (opened table F x.kind) (each F h) in
+      let q = and_parts (nat_le (length (params_of x)) 2) (below F (params_of x)) p.0 in
+      (leb-true (length (params_of x)) 2 q.0, q.1, p.1)
 
   pub table_lawful : Lawful (meaning_by table)
   table_lawful = record {
@@ -165,12 +165,12 @@ module _ (table : List Line) (test : is_lawful table ≡ true) where
     principal_params = principal.0;
     principal_plain = principal.1;
     principal_sendable = principal.2;
-    params_smaller = λ F G h m. below_is F (line_at table F).params (line F h).1 G m;
+    params_smaller = λ F G h m. below_is F (params_of (line_at table F)) (line F h).1 G m;
     opener_params = λ F G h e. opened_is table F G (line_at table F).kind (line F h).2 e;
     msg_never = λ o a b c. ap (λ g. grants_by g o a b c) msg.2;
     grants_kept = λ f z o F a b c h e. grant_kept (line_at table F).granted f o a b c e;
     lacking = λ F h. let past = get_or_past table F lacked h in record {
-      no_params = ap (λ x. x.params) past;
+      no_params = ap (λ x. (params_of x)) past;
       not_sendable = ap (λ x. x.sendable) past;
       no_key = ap (λ x. x.kind) past;
       not_made = ap (λ x. x.makeable) past;

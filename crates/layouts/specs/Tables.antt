@@ -1,38 +1,33 @@
 -- Layouts that are written down as tables, a line for each family.
-use Rattle.std.specs.Prelude.{ℕ, Bool, true, false, ◌||◌, List, [], length, ◌==◌, slice_index_or}
-use Rattle.layouts.specs.Meanings.{Meaning}
-use Rattle.layouts.specs.declared.layout.Kind.{Kind}
+use Rattle.std.specs.Prelude.{ℕ, Bool, true, false, ◌||◌, List, length, ◌==◌, slice_index_or}
+use Rattle.layouts.specs.Meanings.{Meaning, listed}
 use Rattle.layouts.specs.declared.layout.Kind.TheVariants.{Plain}
-
--- To whom the names of a family are granted: to nobody, to everybody, to the first parameter, to either parameter, or to the first parameter of the first.
-pub data Grant : Type 0 where
-  nobody everybody first either of_first : Grant
-
-pub record Line : Type 0 where
-  pub params : List ℕ
-  pub sendable : Bool
-  pub kind : Kind
-  pub makeable : Bool
-  pub granted : Grant
+use Rattle.layouts.specs.declared.layout.Params.TheVariants.{Zero}
+use Rattle.layouts.specs.declared.table.Grant.{Grant}
+use Rattle.layouts.specs.declared.table.Grant.TheVariants.{Nobody, Everybody, Either, OfFirst}
+use Rattle.layouts.specs.declared.table.Line.{Line}
 
 abbrev pub lacked : Line
-lacked = record { params = []; sendable = false; kind = Plain; makeable = false; granted = nobody }
+lacked = record { params = Zero; sendable = false; kind = Plain; makeable = false; granted = Nobody }
 
+-- Granted to nobody, to everybody, to either parameter, or to the first parameter of the first.
 abbrev pub grants_by : Grant → ℕ → ℕ → ℕ → ℕ → Bool
-grants_by nobody o a b c = false
-grants_by everybody o a b c = true
-grants_by first o a b c = o == a
-grants_by either o a b c = o == a || o == b
-grants_by of_first o a b c = o == c
+grants_by Nobody o a b c = false
+grants_by Everybody o a b c = true
+grants_by Either o a b c = o == a || o == b
+grants_by OfFirst o a b c = o == c
 
 abbrev pub line_at : List Line → ℕ → Line
 line_at table F = slice_index_or table F lacked
+
+abbrev pub params_of : Line → List ℕ
+params_of x = listed x.params
 
 -- The layout that the table writes down, family 0 first.
 abbrev pub meaning_by : List Line → Meaning
 meaning_by table = record {
   families = length table;
-  params = λ F. (line_at table F).params;
+  params = λ F. params_of (line_at table F);
   sendable = λ F. (line_at table F).sendable;
   kind = λ F. (line_at table F).kind;
   makeable = λ F. (line_at table F).makeable;

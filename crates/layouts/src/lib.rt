@@ -4,6 +4,5 @@
 
 pub mod any;
 pub mod code;
-pub mod key_server;
 pub mod layout;
-pub mod report;
+pub mod table;

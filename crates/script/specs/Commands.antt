@@ -48,8 +48,8 @@ row_of (kind ∷ first ∷ second ∷ w ∷ ws) = None
 -- A layout by its word.
 abbrev pub layout_of : Word → Option AnyLayout
 layout_of w =
-    cond (bytes_eq w (codes "report")) (Some (any.Report record {}))
-    (cond (bytes_eq w (codes "keyserver")) (Some (any.KeyServer record {})) None)
+    cond (bytes_eq w (codes "report")) (Some any.Report)
+    (cond (bytes_eq w (codes "keyserver")) (Some any.KeyServer) None)
 
 -- A command of one word.
 abbrev pub alone_of : Word → Option Said

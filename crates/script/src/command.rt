@@ -13,8 +13,6 @@ use crate::readable::read_list;
 use crate::types::read_type;
 use crate::words::split_words;
 use layouts::any::AnyLayout;
-use layouts::key_server::KeyServer;
-use layouts::report::Report;
 use std::alloc::{AllocError, Global};
 use std::str::from_utf8;
 use terms::row::{Item, Row};
@@ -242,8 +240,8 @@ fn read_layout(word: &str) -> Option<AnyLayout>
     ensures { result ≡ layout_of word.now }
 {
     match word {
-        "report" => Some(AnyLayout::Report(Report)),
-        "keyserver" => Some(AnyLayout::KeyServer(KeyServer)),
+        "report" => Some(AnyLayout::Report),
+        "keyserver" => Some(AnyLayout::KeyServer),
         _ => None,
     }
 }
