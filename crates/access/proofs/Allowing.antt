@@ -10,7 +10,6 @@ use Rattle.reading.proofs.Shapes.{key, shaped}
 use Rattle.refusals.proofs.Deciding.{clash}
 use Rattle.refusals.specs.Demands.{Lines, Holds, carried, lines}
 use Rattle.std.proofs.lemmas.List.{length_push}
-use Rattle.std.specs.List.{slice_get}
 use Rattle.terms.proofs.Booked.{Earlier, earlier}
 use Rattle.terms.proofs.Numbered.{row_within, row_there, is_row_from}
 use Rattle.terms.specs.Books.{is_book}
@@ -33,12 +32,14 @@ use Rattle.types.specs.Rows.{row_at, term_at}
 use Rattle.types.specs.Rules.{Place, over}
 use Rattle.types.specs.Theories.{place_of, numbered}
 use Rattle.types.specs.Typed.{fact_of, rule_of}
+use Rattle.access.proofs.Members.{nth_in, in_nth}
 use Rattle.access.proofs.Ruling.{row_of_there}
 use Rattle.access.specs.Allowed.{RuleAllowedIn, TheoryAllowed}
 use Rattle.access.specs.Demands.{Parts, parts_of, before_made, made_of, left_of, CanBuild, owner_lines, open_lines, made_lines, argument_lines, built_lines, rule_lines, role_lines, theory_lines}
-use Rattle.access.specs.Places.{at_spot, at_rule, here}
+use Rattle.refusals.specs.Faults.{at_spot}
+use Rattle.access.specs.Places.{at_rule, here}
 use Rattle.access.specs.Tabled.{PartsTabled, RolesTabled}
-use Rattle.access.specs.declared.faults.AccessFault.{AccessFault}
+use Rattle.access.specs.Faults.{AccessFault}
 
 -- ---- tables whose demands are all met
 module _ {F G : Type 0} (up : F → G) where
@@ -222,11 +223,6 @@ module _ (lay : Meaning) (e : Place) (book : is_book e.rows ≡ true) (R : Rule)
             subst (λ Γ. Built (InRule lay Γ me (left_of e p) (made_of e p)) t) (sym onto) (subst (CanBuild lay e p) x.2.2 can);
       }
     where
-      in_nth : {A : Type 0} (xs : List A) (x : A) (k : ℕ) → slice_get xs k ≡ Some x → x ∈ xs
-      in_nth [] x k q = clash (cc)
-      in_nth (y ∷ xs) x zero q = let same : x ≡ y = cc in Memᴰ.head same
-      in_nth (y ∷ xs) x (suc k) q = Memᴰ.tail (in_nth xs x k q)
-
       owned_of : (base : ℕ) (fs : List Fact) → Holds (owners base fs) → (f : rules.Fact) → f ∈ map (fact_of e) fs → Owned me f
       owned_of base fs h f m =
           let x = Memᴰ.of_map (fact_of e) fs m in
@@ -241,11 +237,6 @@ module _ (lay : Meaning) (e : Place) (book : is_book e.rows ≡ true) (R : Rule)
       (both_hold mades builts (each_holds (made_lines lay) (at_spot e.role e.rule (length p.universal)) p.made [] (λ before T m. (made_one T m, tt {0})))
       (each_holds (built_lines lay e p) (at_spot e.role e.rule (length p.left)) p.right [] (λ before f m. arguments_hold (CanBuild lay e p) (term_at e.owner e.rows) (vec_items f.rows) (λ k n. subst (λ Γ. Built (InRule lay Γ me (left_of e p) (made_of e p)) (term_at e.owner e.rows k)) onto (a.built (term_at e.owner e.rows k) (in_argument e p.right f m k n))))))))
     where
-      nth_in : {A : Type 0} (xs : List A) (x : A) → x ∈ xs → (k : ℕ) × (slice_get xs k ≡ Some x)
-      nth_in [] x m = elim m [ ]
-      nth_in (y ∷ xs) x (Memᴰ.head q) = (0, ap Some (sym q))
-      nth_in (y ∷ xs) x (Memᴰ.tail m) = let rest = nth_in xs x m in (suc rest.0, rest.1)
-
       made_one : (T : tables.Ty) → T ∈ p.made → lay.makeable T.family ≡ true
       made_one T m = let k = nth_in p.made T m in a.makeable _ T.family _ (declare_at (variable_decl e.owner) (1 + length p.universal) p.made [] k.0 T k.1)
 

@@ -15,7 +15,7 @@ use Rattle.access.proofs.Tabling.{roles_tabled}
 use Rattle.access.specs.Allowed.{TheoryAllowed}
 use Rattle.access.specs.Checks.{After, AccessTold, AccessAnswered, Answered, Accessible, Accepted}
 use Rattle.access.specs.Demands.{theory_lines}
-use Rattle.access.specs.declared.faults.AccessFault.{AccessFault}
+use Rattle.access.specs.Faults.{AccessFault}
 use Rattle.access.specs.declared.faults.CheckFault.{CheckFault}
 use Rattle.access.specs.declared.faults.CheckFault.TheVariants.{Table, Typing, Access}
 

@@ -6,7 +6,7 @@ use Rattle.refusals.specs.Demands.{Lines, First, carried, lines}
 use Rattle.refusals.specs.Walks.{Answer, pass}
 use Rattle.std.proofs.lemmas.List.{take_more, drop_more, drop_all, length-take-le}
 use Rattle.access.specs.Places.{here}
-use Rattle.access.specs.declared.faults.AccessFault.{AccessFault}
+use Rattle.access.specs.Faults.{AccessFault}
 
 passed_on : (n : ℕ) (xs ys : Lines AccessFault) (r : Answer AccessFault) → First xs pass → First ys r → First (carried (here n) xs ++ ys) r
 passed_on n [] ys r h k = k

@@ -1,5 +1,5 @@
-pub mod Apart
-pub mod Turns
+pub mod Closing
+pub mod Members
 pub mod Scoped
 pub mod Ruling
 pub mod Leading

@@ -1,5 +1,5 @@
 -- The tests of a rule decide its demands.
-use Rattle.std.proofs.Common.{◌≡◌, ℕ, zero, suc, ◌+◌, ◌-◌, ◌<◌, ◌≤◌, Bool, true, false, ◌&&◌, ltb, leb, ◌⊎◌, List, [], ◌∷◌, ◌++◌, map, length, take, Some, Ok, Err, vec_items, filter, sym, refl, ap, ◌∙◌, subst, ap₂, subst₂, inl, inr, ⊎_elim, arith}
+use Rattle.std.proofs.Common.{◌≡◌, ℕ, zero, suc, ◌+◌, ◌-◌, ◌<◌, ◌≤◌, Bool, true, false, cond, not, ◌&&◌, ltb, leb, ◌⊎◌, List, [], ◌∷◌, ◌++◌, map, length, get_or, take, Some, Option, Ok, Err, vec_items, filter, sym, refl, ap, ◌∙◌, subst, ap₂, subst₂, inl, inr, ⊎_elim, arith}
 use mathlib.Core.List.Memᴰ
 use mathlib.Core.List.{map-append}
 use Rattle.judgments.proofs.Accessed.{received_weakened, held_weakened, opens_weakened}
@@ -8,7 +8,7 @@ use Rattle.judgments.specs.Contexts.{Ty, Decl, ◌∶◌, Context, ◌∈◌}
 use Rattle.judgments.specs.Rules.{arguments}
 use Rattle.judgments.specs.Rules as rules
 use Rattle.layouts.specs.Meanings.{Meaning}
-use Rattle.reading.proofs.Filled.{fill_here, fill_before}
+use Rattle.reading.proofs.Filled.{fill_here, fill_before, fill_long}
 use Rattle.reading.proofs.Granting.{same_decides}
 use Rattle.reading.proofs.Shapes.{key, shaped}
 use Rattle.reading.specs.Openers.{reads_as}
@@ -18,10 +18,10 @@ use Rattle.refusals.proofs.Deciding.{clash, decides_and, decides_as, decides_nev
 use Rattle.refusals.proofs.Demanding.{first_demand, first_then}
 use Rattle.refusals.specs.Decides.{Decides}
 use Rattle.refusals.specs.Demands.{Lines, First, lines}
-use Rattle.refusals.specs.Walks.{Answer, pass, and_then, walk}
-use Rattle.std.proofs.lemmas.List.{length-take-le}
+use Rattle.refusals.specs.Walks.{Answer, pass, demand, and_then, walk}
+use Rattle.std.proofs.lemmas.List.{length-take-le, get_or_past}
+use Rattle.std.proofs.lemmas.Option.{slice_get-get_or}
 use Rattle.std.proofs.lemmas.Bool.{and_parts, and_from, or_cases, or_left, or_right, ltb-true, leb-true, lt-ltb, le-leb}
-use Rattle.std.specs.List.{slice_get}
 use Rattle.terms.proofs.Booked.{Earlier, earlier}
 use Rattle.terms.proofs.Numbered.{row_within, row_there, is_row_from, nth_within}
 use Rattle.terms.specs.Books.{is_book}
@@ -41,17 +41,20 @@ use Rattle.theory.specs.declared.owner.Owner.{Owner}
 use Rattle.types.proofs.Found.{declare_at, declare_cases}
 use Rattle.types.specs.Facts.{item_in}
 use Rattle.types.specs.Judged.{type_of, declare, variable_decl}
-use Rattle.types.specs.Rows.{at, row_at, term_at}
+use Rattle.types.specs.Rows.{at, row_at, nothing, term_of, terms, term_at}
 use Rattle.types.specs.Rules.{Place}
+use Rattle.types.specs.Scopes.{a_principal}
 use Rattle.types.specs.Typed.{symbol_of, fact_of}
+use Rattle.access.proofs.Closing.{at_next, closed_first}
 use Rattle.access.proofs.Scoped.{scope_declared, declared_scope}
-use Rattle.access.specs.Demands.{Parts, before_made, left_of, owner_lines, open_lines, made_lines, argument_lines, built_lines, parts_lines}
-use Rattle.access.specs.Places.{at_spot, at_rule, same}
+use Rattle.access.specs.Demands.{Parts, before_made, left_of, owner_lines, made_lines, argument_lines, built_lines, parts_lines}
+use Rattle.refusals.specs.Faults.{at_spot}
+use Rattle.access.specs.Places.{same}
 use Rattle.access.specs.Scopes.{rule_scope}
 use Rattle.access.specs.Tabled.{FactsThere, PartsTabled}
-use Rattle.access.specs.Tests.{is_owner, begins, owned, owner_check, owners_check, closed_check, closed_rows_check, made_check, all_made_check, is_made, can_build, can_by, can_rows, arguments_check, built_check, reading_check}
-use Rattle.access.specs.declared.faults.AccessFault.{AccessFault}
-use Rattle.access.specs.declared.faults.Denied.TheVariants.{NotOwner, StaysClosed, NotMakeable, NotBuildable}
+use Rattle.access.specs.Tests.{is_owner, begins, owned, owner_check, owners_check, closed_rows_check, made_check, all_made_check, is_made, can_build, can_by, can_rows, none_unbuilt, arguments_check, built_check, all_built_check, reading_check}
+use Rattle.access.specs.Faults.{AccessFault}
+use Rattle.access.specs.declared.faults.Denied.TheVariants.{NotOwner, NotMakeable, NotBuildable}
 
 -- ---- tables of demands
 -- one after another, in one table
@@ -87,11 +90,6 @@ left_same e (f ∷ fs) h =
     ap (map (term_at e.owner e.rows)) (kept_there (length e.rows) (vec_items f.rows) (argument_rows fs) (h f (Memᴰ.head refl)))
     ∙ map-append (term_at e.owner e.rows) (vec_items f.rows) (filter (is_row (length e.rows)) (argument_rows fs))
     ∙ ap (λ ts. map (term_at e.owner e.rows) (vec_items f.rows) ++ ts) (left_same e fs (λ g m. h g (Memᴰ.tail m)))
-
-nth_there : {A : Type 0} (xs : List A) (k : ℕ) → k < length xs → (x : A) × (slice_get xs k ≡ Some x)
-nth_there [] k h = absurd (omega arith)
-nth_there (x ∷ xs) zero h = (x, refl)
-nth_there (x ∷ xs) (suc k) h = nth_there xs k (omega arith)
 
 -- ---- the same declarations
 opened_as : (lay : Meaning) (Γ Δ : Context) → ((d : Decl) → d ∈ Γ → d ∈ Δ) → ((d : Decl) → d ∈ Δ → d ∈ Γ) → (o : Item) (left : List Term) (t : Term) → Opened lay Γ o left t → Opened lay Δ o left t
@@ -158,9 +156,9 @@ module _ (e : Place) (book : is_book e.rows ≡ true) where
     made_in : (v : ℕ) → u < v → v ≤ u + length ms → (T : Ty) × (Variable v ∶ T ∈ made)
     made_in v low high =
         let k = v - (1 + u) in
-        let T = nth_there ms k (omega arith) in
+        let T = get_or ms k a_principal in
         let number : 1 + u + k ≡ v = omega arith in
-        (type_of o T.0, subst (λ n. Variable n ∶ type_of o T.0 ∈ made) number (declare_at (variable_decl o) (1 + u) ms [] k T.0 T.1))
+        (type_of o T, subst (λ n. Variable n ∶ type_of o T ∈ made) number (declare_at (variable_decl o) (1 + u) ms [] k T (slice_get-get_or ms k a_principal (omega arith))))
 
     in_made : (i : Item) (T : Ty) → i ∶ T ∈ made → (v : ℕ) × (i ≡ Variable v) × (u < v) × (v ≤ u + length ms)
     in_made i T m = ⊎_elim
@@ -174,11 +172,11 @@ module _ (e : Place) (book : is_book e.rows ≡ true) where
     made_decides : (i : Item) → Decides (is_made u (length ms) i) ((T : Ty) × (i ∶ T ∈ made))
     made_decides (Name n) = decides_never (λ h. let v = in_made (Name n) h.0 h.1 in clash (cc v.1))
     made_decides (Variable v) = record {
-      sound = λ h. let p = and_parts (ltb u v) (leb v (u + length ms)) h in made_in v (ltb-true u v p.0) (leb-true v (u + length ms) p.1);
+      sound = λ h. let p = and_parts (ltb u v) (leb (v - u) (length ms)) h in made_in v (ltb-true u v p.0) (omega (arith, ltb-true u v p.0, leb-true (v - u) (length ms) p.1));
       complete = λ h.
           let w = in_made (Variable v) h.0 h.1 in
           let is : w.0 ≡ v = cc w.1 in
-          and_from _ _ (lt-ltb u v (omega (arith, w.2))) (le-leb v (u + length ms) (omega (arith, w.3)));
+          and_from _ _ (lt-ltb u v (omega (arith, w.2))) (le-leb (v - u) (length ms) (omega (arith, w.3)));
     }
 
     -- what a built term was built of
@@ -268,14 +266,29 @@ module _ (e : Place) (book : is_book e.rows ≡ true) where
     can_decides : (k : ℕ) → is_row (length rows) k ≡ true → Decides (at false can k) (Can (term k))
     can_decides k h = let r = there k h in can_to k k r.0 r.1 (omega arith)
 
+    first_unbuilt : (b : Bool) (k : ℕ) (rest : Option ℕ) → demand b (NotBuildable k) (none_unbuilt rest) ≡ none_unbuilt (cond (not b) (Some k) rest)
+    first_unbuilt true k rest = refl
+    first_unbuilt false k rest = refl
+
     arguments_first : (ks : List ℕ) → rows_there (length rows) ks ≡ true → First (argument_lines Can term ks) (arguments_check can ks)
     arguments_first [] h = refl
     arguments_first (k ∷ ks) h =
         let p = and_parts (is_row (length rows) k) (rows_there (length rows) ks) h in
-        first_demand (NotBuildable k) _ _ (argument_lines Can term ks) (arguments_check can ks) (can_decides k p.0) (λ _. arguments_first ks p.1)
+        subst (First (argument_lines Can term (k ∷ ks))) (first_unbuilt (at false can k) k _)
+        (first_demand (NotBuildable k) _ _ (argument_lines Can term ks) (arguments_check can ks) (can_decides k p.0) (λ _. arguments_first ks p.1))
 
-    closed_first : (seen : List Row) (r : Row) → First ((StaysClosed (length seen + 1), Opened lay Γ me left (term (length seen + 1))) ∷ []) (closed_check cs seen r)
-    closed_first seen r = first_demand (StaysClosed (length seen + 1)) _ _ [] pass (told.closed_told (length seen + 1)) (λ _. refl)
+    open_decides : (j : ℕ) → Decides (not (get_or cs j false)) (Opened lay Γ me left (term (0 + j + 1)))
+    open_decides j =
+        let number : j + 1 ≡ 0 + j + 1 = omega arith in
+        subst₂ (λ b k. Decides (not b) (Opened lay Γ me left (term k))) (at_next false cs j) number (told.closed_told (j + 1))
+
+    -- past the last row stands an item
+    open_past : (j : ℕ) → length rows ≤ j → Opened lay Γ me left (term (0 + j + 1))
+    open_past j h =
+        let number : 0 + j + 1 ≡ j + 1 = omega arith in
+        let long = fill_long (term_of o) [] [] rows in
+        let is : term (0 + j + 1) ≡ nothing = ap term number ∙ at_next nothing (terms o rows) j ∙ get_or_past (terms o rows) j nothing (omega arith) in
+        rw is tt
 
 -- ---- a rule
 module _ (lay : Meaning) (e : Place) (book : is_book e.rows ≡ true) (p : Parts) (tabled : PartsTabled (length e.rows) p) (hs cs : List Bool) where
@@ -286,12 +299,12 @@ module _ (lay : Meaning) (e : Place) (book : is_book e.rows ≡ true) (p : Parts
       (subst (λ left. Told lay (context (rule_scope e.names e.owner p.universal)) e.owner e.rows left hs cs) (left_same e p.left tabled.left_there) t)
 
   pub rule_first : Told lay (context (rule_scope e.names e.owner p.universal)) e.owner e.rows (left_terms e.owner e.rows p.left) hs cs →
-      First (parts_lines lay e p) (and_then same (owners_check e 0 p.left) (and_then same (owners_check e (length p.left) p.right) (reading_check lay e hs cs (length p.universal) p.made (length p.left) p.right)))
+      First (parts_lines lay e p) (and_then same (owners_check e 0 p.left) (and_then same (owners_check e (length p.left) p.right) (reading_check lay e hs cs p)))
   rule_first t =
       let told = rule_told t in
       first_append _ _ (owners_check e 0 p.left) _ (first_each (owner_check e) (owner_lines e) (at_spot e.role e.rule 0) _ (owner_first e book) p.left [] tabled.left_there)
       (λ _. first_append _ _ (owners_check e (length p.left) p.right) _ (first_each (owner_check e) (owner_lines e) (at_spot e.role e.rule (length p.left)) _ (owner_first e book) p.right [] tabled.right_there)
-      (λ _. first_append _ _ (closed_rows_check e cs) _ (first_each (closed_check cs) (open_lines lay e p) (at_rule e.role e.rule) (λ _. Unit {0}) (λ seen r _. closed_first e book lay (before_made e p) (left_of e p) hs cs told (length p.universal) p.made seen r) e.rows [] (λ r m. tt {0}))
+      (λ _. first_append _ _ (closed_rows_check e cs) _ (closed_first e (λ n. Opened lay (before_made e p) (owner_item e.owner) (left_of e p) (term_at e.owner e.rows n)) e.rows [] 0 cs refl (open_decides e book lay (before_made e p) (left_of e p) hs cs told (length p.universal) p.made) (open_past e book lay (before_made e p) (left_of e p) hs cs told (length p.universal) p.made))
       (λ _. first_append _ _ (all_made_check lay e (length p.universal) p.made) _ (first_each (made_check lay) (made_lines lay) (at_spot e.role e.rule (length p.universal)) (λ _. Unit {0}) (λ seen T _. first_demand NotMakeable _ _ [] pass (record { sound = λ x. x; complete = λ x. x }) (λ _. refl)) p.made [] (λ T m. tt {0}))
       (λ _. first_each (built_check (can_rows e.owner (length p.universal) (length p.made) hs e.rows)) (built_lines lay e p) (at_spot e.role e.rule (length p.left)) _ (λ seen f h. arguments_first e book lay (before_made e p) (left_of e p) hs cs told (length p.universal) p.made (vec_items f.rows) h) p.right [] tabled.right_there))))
 
@@ -316,15 +329,14 @@ module _ (lay : Meaning) (e : Place) (book : is_book e.rows ≡ true) (p : Parts
 
   pub goes_on : (hs cs : List Bool) (r : Answer AccessFault) (u v : Unit {0}) → Ok u ≡ owners_check e 0 p.left → Ok v ≡ owners_check e (length p.left) p.right →
       Told lay (context (rule_scope e.names e.owner p.universal)) e.owner e.rows (left_terms e.owner e.rows p.left) hs cs →
-      r ≡ reading_check lay e hs cs (length p.universal) p.made (length p.left) p.right → First (parts_lines lay e p) r
+      r ≡ reading_check lay e hs cs p → First (parts_lines lay e p) r
   goes_on hs cs r u v x y t z =
       subst (First (parts_lines lay e p)) (sym z)
-      (subst₂ (λ a b. First (parts_lines lay e p) (and_then same a (and_then same b (reading_check lay e hs cs (length p.universal) p.made (length p.left) p.right)))) (sym x) (sym y) (rule_first lay e book p tabled hs cs t))
+      (subst₂ (λ a b. First (parts_lines lay e p) (and_then same a (and_then same b (reading_check lay e hs cs p)))) (sym x) (sym y) (rule_first lay e book p tabled hs cs t))
 
-pub passed_both : (a b r : Answer AccessFault) (u v : Unit {0}) → Ok u ≡ a → Ok v ≡ b → r ≡ and_then same a (and_then same b r)
-passed_both a b r u v x y = ap₂ (λ a b. and_then same a (and_then same b r)) x y
-
--- the parts as the code lent them
-pub parts_same : {us us' : List tables.Ty} {ls ls' : List Fact} {ms ms' : List tables.Ty} {rs rs' : List Fact} → us ≡ us' → ls ≡ ls' → ms ≡ ms' → rs ≡ rs' →
-    ◌≡◌ {A = Parts} (record { universal = us; left = ls; made = ms; right = rs }) (record { universal = us'; left = ls'; made = ms'; right = rs' })
-parts_same p q s t = rw (p, q, s, t) refl
+-- what comes after the owner, as the code lends the parts and works out what can be built
+pub read_on : (lay : Meaning) (e : Place) (p : Parts) (hs cs can : List Bool) (u l : ℕ) (ms : List tables.Ty) (rs : List Fact) (r : Answer AccessFault) (a b : Unit {0}) →
+    u ≡ length p.universal → l ≡ length p.left → ms ≡ p.made → rs ≡ p.right →
+    Ok a ≡ closed_rows_check e cs → Ok b ≡ all_made_check lay e u ms → can ≡ can_rows e.owner u (length ms) hs e.rows → r ≡ all_built_check e can l rs → r ≡ reading_check lay e hs cs p
+read_on lay e p hs cs can u l ms rs r a b us ls made right x y z w =
+    rw (z, us, ls, made, right) at (w ∙ ap₂ (λ a b. and_then same a (and_then same b (all_built_check e can l rs))) x y)

@@ -17,10 +17,12 @@ use Rattle.theory.specs.Data.{Ty}
 use Rattle.theory.specs.declared.owner.Owner.{Owner}
 use Rattle.theory.specs.declared.owner.Owner.TheVariants.{Nobody, Generic, Anchored}
 use Rattle.types.proofs.Found.{declare_at, declare_cases, declare_kept, owner_kept}
+use Rattle.types.specs.Forms.{mapped}
 use Rattle.types.specs.Judged.{declare, name_decl, variable_decl, with_owner, context_of}
 use Rattle.types.specs.Scopes.{a_principal}
 use Rattle.types.specs.Types.{items}
-use Rattle.access.specs.Scopes.{read_params, name_entry, owner_entries, variable_entry, variable_entries, rule_scope}
+use Rattle.access.proofs.Members.{nth_in, in_nth}
+use Rattle.access.specs.Scopes.{name_entry, owner_entries, variable_entry, variable_entries, rule_scope}
 
 -- ---- one turn of the loops that put it together
 pub names_more : (o : Owner) (before now : List Entry) (ds : List Declared) (i : ℕ) (d : Declared) (x : Entry) → i < length ds → x ≡ name_entry o (get_or ds i d) → now ≡ before ++ map (name_entry o) (take i ds) → now ++ x ∷ [] ≡ before ++ map (name_entry o) (take (i + 1) ds)
@@ -41,7 +43,7 @@ variables_more o before now Ts i T x within is inv =
     ∙ ap (λ xs. before ++ xs) (ap (λ n. variable_entries o 1 (take i Ts) ++ (variable_entry o n (get_or Ts i T) ∷ [])) (sym long) ∙ sym (variables_push o 1 (take i Ts) (get_or Ts i T)) ∙ ap (variable_entries o 1) (sym (take_more Ts i T within)))
 
 -- ---- the same declarations
-read_items : (o : Owner) (ps : Params Item) → items (read_params o ps) ≡ map (item_of o) (items ps)
+read_items : (o : Owner) (ps : Params Item) → items (mapped (item_of o) ps) ≡ map (item_of o) (items ps)
 read_items o Zero = refl
 read_items o (One p) = refl
 read_items o (Two p q) = refl
@@ -55,16 +57,6 @@ module _ (ds : List Declared) (o : Owner) (us : List Ty) where
 
   name_same : (n : ℕ) (d : Declared) → decl_of (name_entry o d) ≡ name_decl o n d
   name_same n d = ap (λ ps. Name d.name ∶ ty d.of.family ps) (read_items o d.of.params)
-
-  nth_in : {A : Type 0} (xs : List A) (x : A) → x ∈ xs → (k : ℕ) × (slice_get xs k ≡ Some x)
-  nth_in [] x m = elim m [ ]
-  nth_in (y ∷ xs) x (Memᴰ.head e) = (0, ap Some (sym e))
-  nth_in (y ∷ xs) x (Memᴰ.tail m) = let rest = nth_in xs x m in (suc rest.0, rest.1)
-
-  in_nth : {A : Type 0} (xs : List A) (x : A) (k : ℕ) → slice_get xs k ≡ Some x → x ∈ xs
-  in_nth [] x k e = clash (cc)
-  in_nth (y ∷ xs) x zero e = let same : x ≡ y = cc in Memᴰ.head same
-  in_nth (y ∷ xs) x (suc k) e = Memᴰ.tail (in_nth xs x k e)
 
   -- a variable's entry, by its place
   variable_in : (v : ℕ) (Ts : List Ty) (x : Entry) → x ∈ variable_entries o v Ts → (k : ℕ) × (T : Ty) × (slice_get Ts k ≡ Some T) × (x ≡ variable_entry o (v + k) T)

@@ -45,9 +45,6 @@ module _ (T : Theory) (h : tables_check T [] ≡ pass) where
   missing_pass : missing_check T [] ≡ pass
   missing_pass = (then_parts counts.same (counts_check T []) (missing_check T []) h).1
 
-  pub few_names : vec_len T.names ≤ 128
-  few_names = counted (vec_len T.names) 128 0 0 (then_parts counts.same (count_check (vec_len T.names) 128 0 0) _ counts_pass).0
-
   roles_counted : (R : Role) → R ∈ vec_items T.roles → (before : List Role) × (placed_role_counts before R ≡ pass)
   roles_counted R m =
       let a = (then_parts counts.same (count_check (vec_len T.names) 128 0 0) _ counts_pass).1 in

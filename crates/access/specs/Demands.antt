@@ -20,8 +20,9 @@ use Rattle.types.specs.Rows.{term_at}
 use Rattle.types.specs.Rules.{Place, over}
 use Rattle.types.specs.Theories.{place_of, numbered}
 use Rattle.types.specs.Typed.{fact_of}
-use Rattle.access.specs.Places.{at_spot, at_rule, here}
-use Rattle.access.specs.declared.faults.AccessFault.{AccessFault}
+use Rattle.refusals.specs.Faults.{at_spot}
+use Rattle.access.specs.Places.{at_rule, here}
+use Rattle.access.specs.Faults.{AccessFault}
 use Rattle.access.specs.declared.faults.Denied.{Denied}
 use Rattle.access.specs.declared.faults.Denied.TheVariants.{NotOwner, StaysClosed, NotMakeable, NotBuildable}
 

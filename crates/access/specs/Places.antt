@@ -1,22 +1,18 @@
 -- Where a rule is checked, and where its faults are told.
-use Rattle.std.specs.Prelude.{ℕ, ◌+◌, []}
+use Rattle.std.specs.Prelude.{ℕ, []}
 use Rattle.terms.specs.Held.{rows_of}
 use Rattle.types.specs.Rules.{Place}
-use Rattle.access.specs.declared.faults.AccessFault.{AccessFault}
+use Rattle.access.specs.Faults.{AccessFault}
 use Rattle.access.specs.declared.faults.Denied.{Denied}
 use Rattle.access.specs.declared.setting.Setting.{Setting}
 
 -- The predicates of a theory have no say in the access check.
 abbrev pub setting_of : Setting → Place
-setting_of e = record { names = e.names.now; memory = []; own = []; rows = rows_of e.book.now; owner = e.owner; role = e.role; rule = e.rule }
-
--- The spot counts on after so many.
-abbrev pub at_spot : ℕ → ℕ → ℕ → ℕ → Denied → AccessFault
-at_spot role rule base n d = record { role = role; rule = rule; spot = base + n; denied = d }
+setting_of e = record { names = e.names.declared.now; memory = []; own = []; rows = rows_of e.book.now; owner = e.owner; role = e.role; rule = e.rule }
 
 -- A row of the book has no spot in the rule.
 abbrev pub at_rule : ℕ → ℕ → ℕ → Denied → AccessFault
-at_rule role rule n d = record { role = role; rule = rule; spot = 0; denied = d }
+at_rule role rule n d = record { role = role; rule = rule; spot = 0; why = d }
 
 abbrev pub same : AccessFault → AccessFault
 same f = f

@@ -1,25 +1,14 @@
 -- The scope in which a rule is read: names, the owner, universal variables.
 use Rattle.std.specs.Prelude.{ℕ, ◌+◌, List, [], ◌∷◌, ◌++◌, map, take}
 use Rattle.reading.specs.declared.scope.Entry.{Entry}
-use Rattle.terms.specs.declared.row.Item.{Item}
 use Rattle.terms.specs.declared.row.Item.TheVariants.{Name, Variable}
-use Rattle.theory.specs.Owners.{item_of}
 use Rattle.theory.specs.declared.data.Declared.{Declared}
-use Rattle.layouts.specs.declared.layout.Params.{Params}
-use Rattle.layouts.specs.declared.layout.Params.TheVariants.{Zero, One, Two}
 use Rattle.theory.specs.Data.{Ty}
 use Rattle.theory.specs.declared.owner.Owner.{Owner}
 use Rattle.theory.specs.declared.owner.Owner.TheVariants.{Nobody, Generic, Anchored}
+use Rattle.types.specs.Forms.{read_type}
 use Rattle.types.specs.Scopes.{a_principal}
 use Rattle.access.specs.declared.scope.Scope.{Scope}
-
-abbrev pub read_params : Owner → Params Item → Params Item
-read_params o Zero = Zero
-read_params o (One p) = One (item_of o p)
-read_params o (Two p q) = Two (item_of o p) (item_of o q)
-
-abbrev pub read_type : Owner → Ty → Ty
-read_type o T = record { family = T.family; params = read_params o T.params }
 
 abbrev pub name_entry : Owner → Declared → Entry
 name_entry o d = record { item = Name d.name; of = read_type o d.of }

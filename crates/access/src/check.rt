@@ -8,6 +8,7 @@ ghost use Rattle.access.specs.Demands.{theory_lines};
 
 use crate::faults::{AccessFault, CheckFault};
 use crate::rules::check_roles;
+use crate::setting::Names;
 use layouts::layout::Layout;
 use theory::data::Theory;
 use theory::tables::check_tables;
@@ -18,12 +19,10 @@ fn check_rules_of<L: Layout>(layout: &L, theory: &Theory) -> Result<(), AccessFa
     requires { tables_check theory.now [] ≡ pass }
     ensures { First (theory_lines (L.meaning layout.now) theory.now) result }
 {
-    check_roles(
-        layout,
-        theory.names.as_slice(),
-        &theory.book,
-        theory.roles.as_slice(),
-    )
+    let names = Names {
+        declared: theory.names.as_slice(),
+    };
+    check_roles(layout, names, &theory.book, theory.roles.as_slice())
 }
 
 /// The access check of a theory. It begins with the table check, since it goes by the places and the
@@ -32,7 +31,7 @@ pub fn check_access<L: Layout>(layout: &L, theory: &Theory) -> Result<(), CheckF
     ensures answer { AccessAnswered (L.meaning layout.now) theory.now result }
     ensures judged { Passes result (Accessible (L.meaning layout.now) theory.now) }
 {
-    check_tables(theory, Default::default())?;
+    check_tables(theory, &[])?;
     Ok(check_rules_of(layout, theory)?)
 }
 
@@ -41,7 +40,7 @@ pub fn check<L: Layout>(layout: &L, theory: &Theory) -> Result<(), CheckFault>
     ensures answer { Answered (L.meaning layout.now) theory.now result }
     ensures judged { Passes result (Accepted (L.meaning layout.now) theory.now) }
 {
-    check_tables(theory, Default::default())?;
+    check_tables(theory, &[])?;
     check_types(layout, theory)?;
     check_rules_of(layout, theory)?;
     Ok(())

@@ -1,8 +1,10 @@
-ghost use Rattle.std.specs.Prelude.{◌≡◌};
-ghost use Rattle.access.specs.Faults.{refusal_of, reason_of, access_refusal, access_reason};
+ghost use Rattle.std.specs.Prelude.{◌≡◌, Some};
+ghost use Rattle.access.specs.Faults.{number_of, row_of, access_reason, refusal_of, reason_of};
 ghost use Rattle.access.specs.declared.faults.CheckFault.TheVariants.{Table, Typing, Access};
 
 use refusals::Refusal;
+use refusals::fault::{Fault, Reason};
+use std::fmt;
 use theory::faults::TableFault;
 use types::faults::TypeFault;
 
@@ -19,48 +21,50 @@ pub enum Denied {
     NotBuildable(usize),
 }
 
-/// What is denied, and where: the role and the rule, counted from 1, and the spot in it.
-#[derive(Clone, Copy, PartialEq, Eq)]
-pub struct AccessFault {
-    pub role: usize,
-    pub rule: usize,
-    pub spot: usize,
-    pub denied: Denied,
-}
+impl Reason for Denied {
+    ghost layer_number = { 4 };
 
-impl AccessFault {
-    /// The six numbers of the fault.
-    pub fn refusal(self) -> Refusal
-        ensures { result ≡ access_refusal self }
-    {
-        let (number, row) = match self.denied {
-            Denied::NotOwner => (16, 0),
-            Denied::StaysClosed(row) => (17, row),
-            Denied::NotMakeable => (18, 0),
-            Denied::NotBuildable(row) => (19, row),
-        };
-        Refusal {
-            number,
-            layer: 4,
-            role: self.role,
-            rule: self.rule,
-            spot: self.spot,
-            row,
+    ghost number_of = { number_of };
+
+    ghost row_of = { row_of };
+
+    fn layer() -> u8 {
+        4
+    }
+
+    fn number(self) -> u8 {
+        match self {
+            Denied::NotOwner => 16,
+            Denied::StaysClosed(_) => 17,
+            Denied::NotMakeable => 18,
+            Denied::NotBuildable(_) => 19,
         }
     }
 
-    /// The reason in words.
-    pub fn reason(self) -> &'static str
-        ensures { result.now ≡ access_reason self.denied }
-    {
-        match self.denied {
+    fn row(self) -> usize {
+        match self {
+            Denied::StaysClosed(row) | Denied::NotBuildable(row) => row,
+            Denied::NotOwner | Denied::NotMakeable => 0,
+        }
+    }
+}
+
+/// The reason in words.
+impl fmt::Display for Denied {
+    ghost output = { λ d. Some (access_reason d) };
+
+    fn fmt<W: fmt::Write>(&self, f: &mut fmt::Formatter<W>) -> fmt::Result {
+        f.write_str(match self {
             Denied::NotOwner => "the first argument of a memory or role fact is not the owner",
             Denied::StaysClosed(_) => "a received seal or lock stays closed",
             Denied::NotMakeable => "names of the family are not to be made",
             Denied::NotBuildable(_) => "an argument cannot be built",
-        }
+        })
     }
 }
+
+/// What is denied, and where.
+pub type AccessFault = Fault<Denied>;
 
 /// The fault of a checked theory, whole: of its tables, its types or its data access.
 #[derive(Clone, Copy)]
@@ -70,26 +74,28 @@ pub enum CheckFault {
     Access(AccessFault),
 }
 
-impl CheckFault {
-    /// The six numbers of the fault.
-    pub fn refusal(self) -> Refusal
-        ensures { result ≡ refusal_of self }
-    {
-        match self {
-            CheckFault::Table(fault) => fault.refusal(),
-            CheckFault::Typing(fault) => fault.refusal(),
-            CheckFault::Access(fault) => fault.refusal(),
+/// The six numbers of the fault.
+impl From<CheckFault> for Refusal {
+    ghost from_gives = { λ f r. r ≡ refusal_of f };
+
+    fn from(fault: CheckFault) -> Refusal {
+        match fault {
+            CheckFault::Table(fault) => fault.into(),
+            CheckFault::Typing(fault) => fault.into(),
+            CheckFault::Access(fault) => fault.into(),
         }
     }
+}
 
-    /// The reason in words.
-    pub fn reason(self) -> &'static str
-        ensures { result.now ≡ reason_of self }
-    {
+/// The reason in words.
+impl fmt::Display for CheckFault {
+    ghost output = { λ f. Some (reason_of f) };
+
+    fn fmt<W: fmt::Write>(&self, f: &mut fmt::Formatter<W>) -> fmt::Result {
         match self {
-            CheckFault::Table(fault) => fault.reason(),
-            CheckFault::Typing(fault) => fault.reason(),
-            CheckFault::Access(fault) => fault.reason(),
+            CheckFault::Table(fault) => fault.fmt(f),
+            CheckFault::Typing(fault) => fault.fmt(f),
+            CheckFault::Access(fault) => fault.fmt(f),
         }
     }
 }

@@ -4,6 +4,7 @@
 
 mod building;
 pub mod check;
+mod entries;
 pub mod faults;
 mod owners;
 mod rules;

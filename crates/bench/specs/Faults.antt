@@ -18,5 +18,5 @@ refusal_of (Typing f) = types.refusal_of f
 abbrev pub reason_of : Fault → List ℕ
 reason_of (Book f) = book.reason_of f
 reason_of (InList f) = lists.reason_of f
-reason_of (Table f) = tables.reason_of f.flaw
-reason_of (Typing f) = ill.reason_of f.ill
+reason_of (Table f) = tables.reason_of f.why
+reason_of (Typing f) = ill.reason_of f.why

@@ -20,9 +20,9 @@ use Rattle.theory.specs.Tables.{tables_check}
 use Rattle.theory.specs.Data.{Argument}
 use Rattle.theory.specs.declared.data.Declared.{Declared}
 use Rattle.theory.specs.declared.data.Theory.{Theory}
-use Rattle.theory.specs.declared.faults.TableFault.{TableFault}
+use Rattle.theory.specs.Faults.{TableFault}
 use Rattle.types.specs.Theories.{theory_check}
-use Rattle.types.specs.declared.faults.TypeFault.{TypeFault}
+use Rattle.types.specs.Faults.{TypeFault}
 use Rattle.bench.specs.Changes.{Kept, Edited}
 use Rattle.bench.specs.Roles.{WrittenRole, blank_role, changed_last, with_part}
 use Rattle.bench.specs.States.{State, Written, nothing}

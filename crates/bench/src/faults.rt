@@ -25,9 +25,9 @@ impl From<Fault> for Refusal {
     fn from(fault: Fault) -> Refusal {
         match fault {
             Fault::Book(fault) => fault.into(),
-            Fault::List(fault) => fault.refusal(),
-            Fault::Table(fault) => fault.refusal(),
-            Fault::Typing(fault) => fault.refusal(),
+            Fault::List(fault) => fault.into(),
+            Fault::Table(fault) => fault.into(),
+            Fault::Typing(fault) => fault.into(),
         }
     }
 }
@@ -39,9 +39,9 @@ impl fmt::Display for Fault {
     fn fmt<W: fmt::Write>(&self, f: &mut fmt::Formatter<W>) -> fmt::Result {
         match self {
             Fault::Book(fault) => fault.fmt(f),
-            Fault::List(fault) => f.write_str(fault.reason()),
-            Fault::Table(fault) => f.write_str(fault.reason()),
-            Fault::Typing(fault) => f.write_str(fault.reason()),
+            Fault::List(fault) => fault.fmt(f),
+            Fault::Table(fault) => fault.fmt(f),
+            Fault::Typing(fault) => fault.fmt(f),
         }
     }
 }

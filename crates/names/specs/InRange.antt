@@ -1,9 +1,10 @@
 -- The names ahead of a counter or a roll are in range.
-use Rattle.std.specs.Prelude.{◌≡◌, ℕ, ◌<◌, true, ◌&&◌, drop, nat_le}
+use Rattle.std.specs.Prelude.{◌≡◌, ℕ, ◌<◌, true, ◌&&◌, nat_le}
 use Rattle.std.proofs.Common.{arith}
 use Rattle.std.proofs.lemmas.Bool.{and_parts, leb-true}
 use Rattle.names.specs.Any.{view_of, ahead_in}
-use Rattle.names.specs.Reading.{listed_name, once_drop}
+use Rattle.names.specs.Unread.{unread}
+use Rattle.names.specs.Reading.{listed_name}
 use Rattle.names.specs.declared.any.AnySource.{AnySource}
 use Rattle.names.specs.declared.any.AnySource.TheVariants as any
 
@@ -14,4 +15,4 @@ counted next n low e =
 
 pub names_in_range : (s : AnySource) (n : ℕ) → ahead_in (view_of s) n ≡ true → (0 < n) × (n < 4294967296)
 names_in_range (any.Counter c) n e = counted c.next n c.low e
-names_in_range (any.Roll r) n e = listed_name (drop r.read r.numbers.items) n (once_drop r.numbers.items r.read r.once) e
+names_in_range (any.Roll r) n e = listed_name (unread r) n r.once e

@@ -1,5 +1,6 @@
 -- The roll: a list of names that is read in order.
-use Rattle.std.specs.Prelude.{◌≡◌, ℕ, ◌+◌, Bool, true, cond, not, ◌&&◌, ◌||◌, List, [], ◌∷◌, ◌++◌, length, Some, None, Ok, Err, Option, Result, ◌==◌, nat_le, nat_lt}
+use Rattle.std.specs.Prelude.{◌≡◌, ℕ, ◌+◌, Bool, true, not, ◌&&◌, ◌||◌, List, [], ◌∷◌, length, take, Some, None, Ok, Err, Option, Result, ◌==◌, nat_le, nat_lt}
+use Rattle.std.specs.List.{enumerate_from, position_from}
 use Rattle.refusals.specs.Tables.{decided}
 use Rattle.names.specs.Sets.{listed}
 use Rattle.names.specs.declared.faults.ListFault.{ListFault}
@@ -10,18 +11,18 @@ abbrev pub once_each : List ℕ → Bool
 once_each [] = true
 once_each (x ∷ xs) = (nat_lt 0 x && nat_le x 4294967295) && (not (listed xs x) && once_each xs)
 
--- The place of the first number that is zero or was there before, where the first has the place n.
-abbrev pub first_unfit : List ℕ → ℕ → List ℕ → Option ℕ
-first_unfit before n [] = None
-first_unfit before n (x ∷ xs) = cond (x == 0 || listed before x) (Some n) (first_unfit (before ++ x ∷ []) (n + 1) xs)
+-- The index of the first number that is zero or was there before.
+abbrev pub first_unfit : List ℕ → Option ℕ
+first_unfit xs = position_from (λ p. p.1 == 0 || listed (take p.0 xs) p.1) 0 (enumerate_from 0 xs)
 
+-- Its place, counted from 1, is told.
 abbrev pub unfit_line : Option ℕ → List (ListFault × Bool)
 unfit_line None = []
-unfit_line (Some n) = (Unfit n, true) ∷ []
+unfit_line (Some i) = (Unfit (i + 1), true) ∷ []
 
 -- The refusals of loading the list, in order.
 abbrev pub load_refusals : List ℕ → List (ListFault × Bool)
-load_refusals xs = (RollTooLong, nat_lt 512 (length xs)) ∷ unfit_line (first_unfit [] 1 xs)
+load_refusals xs = (RollTooLong, nat_lt 512 (length xs)) ∷ unfit_line (first_unfit xs)
 
 abbrev pub load_answer : List ℕ → Result (Unit {0}) ListFault
 load_answer xs = decided (load_refusals xs) (tt {0})

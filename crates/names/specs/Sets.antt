@@ -1,5 +1,6 @@
 -- Sets of names, as tests on numbers; lists as sets; and how many names a set has.
-use Rattle.std.specs.Prelude.{ℕ, zero, suc, ◌+◌, Bool, true, false, not, ◌&&◌, ◌||◌, List, [], ◌∷◌, ◌==◌}
+use Rattle.std.specs.Prelude.{ℕ, zero, suc, ◌+◌, Bool, cond, not, ◌&&◌, List, ◌==◌}
+use Rattle.std.specs.List.{list_any}
 
 -- A set of names.
 abbrev pub Names : Type 0
@@ -7,20 +8,18 @@ Names = ℕ → Bool
 
 -- The set without one name.
 abbrev pub without : Names → ℕ → Names
-without f x n = f n && not (n == x)
+without f x n = f n && not (x == n)
 
 -- The set of the numbers of a list.
 abbrev pub listed : List ℕ → Names
-listed [] n = false
-listed (x ∷ xs) n = n == x || listed xs n
+listed xs n = list_any (λ x. x == n) xs
 
 -- The set without the numbers of a list.
 abbrev pub minus : Names → List ℕ → Names
 minus f xs n = f n && not (listed xs n)
 
 abbrev pub one_if : Bool → ℕ
-one_if true = 1
-one_if false = 0
+one_if b = cond b 1 0
 
 -- How many numbers below the bound are in the set. It stays shut in proofs: the bound is 2 ^ 32.
 unfoldable pub count_below : Names → ℕ → ℕ

@@ -1,14 +1,14 @@
 -- The withholding layer: some names of the source below are kept back.
-use Rattle.std.specs.Prelude.{◌≡◌, ℕ, ◌+◌, Bool, true, false, not, ◌&&◌, List, [], ◌∷◌, length, Some, None, Ok, Err, Option, Result, nat_lt}
+use Rattle.std.specs.Prelude.{◌≡◌, ℕ, Bool, true, false, not, ◌&&◌, List, [], ◌∷◌, length, take, count_by, Some, None, Ok, Err, Option, Result, nat_lt}
+use Rattle.std.specs.List.{enumerate_from}
 use Rattle.refusals.specs.Tables.{decided}
-use Rattle.names.specs.Sets.{Names, listed, one_if}
+use Rattle.names.specs.Sets.{Names, listed}
 use Rattle.names.specs.declared.faults.ListFault.{ListFault}
 use Rattle.names.specs.declared.faults.ListFault.TheVariants.{LayerTooLong}
 
--- How many names of the set are listed, each counted once however often it stands there.
+-- How many names of the set are listed, each counted once, at its first place, however often it stands there.
 abbrev pub hidden : Names → List ℕ → ℕ
-hidden f [] = 0
-hidden f (x ∷ xs) = one_if (f x && not (listed xs x)) + hidden f xs
+hidden f xs = count_by (λ p. f p.1 && not (listed (take p.0 xs) p.1)) (enumerate_from 0 xs)
 
 -- The refusals of withholding the list.
 abbrev pub withhold_refusals : List ℕ → List (ListFault × Bool)

@@ -9,6 +9,7 @@ use crate::source::Source;
 use crate::withholding::Withholding;
 
 /// A counter or a roll, chosen at run time.
+// An enum and no trait object: there are just these two, and no heap is needed to hold one.
 #[derive(Drop)]
 pub enum AnySource {
     Counter(Counter),

@@ -1,14 +1,16 @@
-ghost use Rattle.std.specs.Prelude.{◌≡◌, ◌<◌, ◌≤◌, max, Bool};
-ghost use Rattle.names.specs.Sets.{how_many};
-ghost use Rattle.names.specs.Draws.{Drawn};
+ghost use Rattle.std.specs.Prelude.{◌≡◌, ◌<◌, ◌≤◌, max};
 ghost use Rattle.names.specs.Counting.{from_next, Counts};
 ghost use Rattle.std.proofs.Common.{rules};
 
 use crate::source::Source;
 
+/// The number after the last name.
+const PAST_LAST: u64 = u32::MAX as u64 + 1;
+
 /// The numbers from a first one through 4,294,967,295, the lowest first.
 #[derive(Drop)]
 pub struct Counter {
+    /// The next name, or the number after the last one, which no `u32` is.
     next: u64,
     ghost low: { 0 < next },
     ghost high: { next ≤ 4294967296 },
@@ -37,14 +39,11 @@ impl Source for Counter {
     }
 
     fn at_least(&self, count: usize) -> bool {
-        count as u64 <= 4_294_967_296 - self.next
+        count as u64 <= PAST_LAST - self.next
     }
 
     fn draw(&mut self) -> Option<u32> {
-        if self.next > 4_294_967_295 {
-            return None;
-        }
-        let name = self.next as u32;
+        let name = u32::try_from(self.next).ok()?;
         self.next += 1;
         Some(name)
     }

@@ -1,6 +1,5 @@
-ghost use Rattle.std.specs.Prelude.{◌≡◌, ◌+◌, ◌≤◌, vec_len, vec_capacity};
-ghost use Rattle.names.specs.Sets.{how_many};
-ghost use Rattle.names.specs.Many.{ManyDrawn, can_draw, AllOrNone};
+ghost use Rattle.std.specs.Prelude.{◌≡◌, vec_len, vec_capacity};
+ghost use Rattle.names.specs.Many.{can_draw, AllOrNone};
 
 use crate::source::Source;
 
@@ -11,27 +10,14 @@ pub fn draw_names<S: Source>(source: &mut S, names: &mut Vec<u32>, count: usize)
     ensures drawn { AllOrNone result count (S.ahead source.old) names.old.items (S.ahead source.new) names.new.items }
     ensures capacity { vec_capacity names.new ≡ vec_capacity names.old }
 {
-    if !source.at_least(count) {
+    if !source.at_least(count) || count > names.capacity() - names.len() {
         return false;
     }
-    if count > names.capacity() - names.len() {
-        return false;
-    }
-    draw_each(source, names, count);
-    true
-}
-
-/// Draws so many names, which are there, into a list that has memory for them.
-fn draw_each<S: Source>(source: &mut S, names: &mut Vec<u32>, count: usize)
-    requires there { count ≤ how_many (S.ahead source.old) }
-    requires room { vec_len names.old + count ≤ vec_capacity names.old }
-    ensures capacity { vec_capacity names.new ≡ vec_capacity names.old }
-    ensures drawn { ManyDrawn count (S.ahead source.old) names.old.items (S.ahead source.new) names.new.items }
-{
-    for _i in 0..count {
+    for _ in 0..count {
         let Some(name) = source.draw() else {
-            unreachable()
+            unreachable!()
         };
         names.push_reserved(name);
     }
+    true
 }

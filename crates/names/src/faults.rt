@@ -1,9 +1,12 @@
-ghost use Rattle.std.specs.Prelude.{◌≡◌};
+ghost use Rattle.std.specs.Prelude.{◌≡◌, Some};
 ghost use Rattle.names.specs.Faults.{refusal_of, reason_of};
 ghost use Rattle.names.specs.declared.faults.ListFault.TheVariants.{NoMemory};
 
+use crate::roll::MAX_NAMES;
+use crate::withholding::MAX_WITHHELD;
 use refusals::Refusal;
 use std::alloc::AllocError;
+use std::fmt;
 
 /// Why a list of numbers was not taken, or a source not made.
 #[derive(Clone, Copy, PartialEq, Eq)]
@@ -18,15 +21,15 @@ pub enum ListFault {
     NoMemory,
 }
 
-impl ListFault {
-    /// The six numbers of the fault.
-    pub fn refusal(self) -> Refusal
-        ensures { result ≡ refusal_of self }
-    {
-        let (number, spot) = match self {
+/// The six numbers of the fault.
+impl From<ListFault> for Refusal {
+    ghost from_gives = { λ f r. r ≡ refusal_of f };
+
+    fn from(fault: ListFault) -> Refusal {
+        let (number, spot) = match fault {
             ListFault::NoMemory => (0, 0),
-            ListFault::RollTooLong => (5, 513),
-            ListFault::LayerTooLong => (5, 33),
+            ListFault::RollTooLong => (5, MAX_NAMES + 1),
+            ListFault::LayerTooLong => (5, MAX_WITHHELD + 1),
             ListFault::Unfit { place } => (6, place),
         };
         Refusal {
@@ -38,17 +41,19 @@ impl ListFault {
             row: 0,
         }
     }
+}
 
-    /// The reason in words.
-    pub fn reason(self) -> &'static str
-        ensures { result.now ≡ reason_of self }
-    {
-        match self {
+/// The reason in words.
+impl fmt::Display for ListFault {
+    ghost output = { λ f. Some (reason_of f) };
+
+    fn fmt<W: fmt::Write>(&self, f: &mut fmt::Formatter<W>) -> fmt::Result {
+        f.write_str(match self {
             ListFault::RollTooLong => "a roll has at most 512 numbers",
             ListFault::LayerTooLong => "a layer withholds at most 32 numbers",
-            ListFault::Unfit { place: _ } => "a number is zero or repeated",
+            ListFault::Unfit { .. } => "a number is zero or repeated",
             ListFault::NoMemory => "there is no memory for the list",
-        }
+        })
     }
 }
 

@@ -1,15 +1,15 @@
-ghost use Rattle.std.specs.Prelude.{◌≡◌, ◌≤◌, [], length, vec_len, vec_capacity, MatchResult};
+ghost use Rattle.std.specs.Prelude.{◌≡◌, ◌≤◌, [], vec_len, vec_capacity, MatchResult};
 ghost use Rattle.names.specs.Sets.{minus};
 ghost use Rattle.names.specs.Withheld.{hidden, withhold_answer, withhold_leaves, FirstKept};
 ghost use Rattle.std.proofs.Common.{rules};
 
 use crate::faults::ListFault;
-use crate::lists::is_listed;
+use crate::lists::refill;
 use crate::source::Source;
 use std::alloc::{AllocFailed, Global};
 
 /// The most numbers of a withholding layer.
-const MAX_WITHHELD: usize = 32;
+pub(crate) const MAX_WITHHELD: usize = 32;
 
 /// A source whose names ahead are those of a source below, without some that are withheld. It has
 /// memory for 32 numbers from the start.
@@ -44,27 +44,20 @@ impl<S: Source> Withholding<S> {
         if numbers.len() > MAX_WITHHELD {
             return Err(ListFault::LayerTooLong);
         }
-        self.withheld.clear();
-        let _ = self.withheld.extend_from_slice(numbers);
+        refill(&mut self.withheld, numbers);
         Ok(())
     }
 }
 
 /// How many of the names ahead are listed, each counted once.
 fn count_hidden<S: Source>(below: &S, numbers: &[u32]) -> usize
-    ensures { (result ≡ hidden (S.ahead below.now) numbers.now) × (result ≤ length numbers.now) }
+    ensures { result ≡ hidden (S.ahead below.now) numbers.now }
 {
-    match numbers {
-        [] => 0,
-        [first, rest @ ..] => {
-            let later = count_hidden(below, rest);
-            if below.is_ahead(*first) && !is_listed(rest, *first) {
-                later + 1
-            } else {
-                later
-            }
-        }
-    }
+    numbers
+        .iter()
+        .enumerate()
+        .filter(|(i, number)| below.is_ahead(**number) && !numbers[..*i].contains(number))
+        .count()
 }
 
 impl<S: Source> Source for Withholding<S> {
@@ -75,17 +68,17 @@ impl<S: Source> Source for Withholding<S> {
     ghost names = { Prim.search rules };
 
     fn is_ahead(&self, name: u32) -> bool {
-        self.below.is_ahead(name) && !is_listed(self.withheld.as_slice(), name)
+        self.below.is_ahead(name) && !self.withheld.contains(&name)
     }
 
     fn at_least(&self, count: usize) -> bool {
-        let kept_back = count_hidden(&self.below, self.withheld.as_slice());
+        let kept_back = count_hidden(&self.below, &self.withheld);
         self.below.at_least(count.saturating_add(kept_back))
     }
 
     fn draw(&mut self) -> Option<u32> {
         while let Some(name) = self.below.draw() {
-            if !is_listed(self.withheld.as_slice(), name) {
+            if !self.withheld.contains(&name) {
                 return Some(name);
             }
         }

@@ -1,6 +1,8 @@
 -- The marks that passes end with are exactly what is received.
-use Rattle.std.proofs.Common.{◌≡◌, ℕ, zero, suc, ◌+◌, ◌-◌, ◌<◌, ◌≤◌, Bool, true, false, cond, not, ◌&&◌, eqb, ◌⊎◌, List, [], ◌∷◌, ◌++◌, map, length, get_or, take, set, replicate, Some, None, vec_items, filter, Option, sym, refl, ap, ◌∙◌, subst, ap₂, subst₂, inl, inr, ⊎_elim, arith}
+use Rattle.std.proofs.Common.{◌≡◌, ℕ, zero, suc, ◌+◌, ◌-◌, ◌<◌, ◌≤◌, Bool, true, false, cond, not, ◌&&◌, eqb, ◌⊎◌, List, [], ◌∷◌, map, length, get_or, take, set, replicate, Some, None, vec_items, filter, Option, sym, refl, ap, ◌∙◌, subst, subst₂, inl, inr, ⊎_elim, arith}
 use mathlib.Core.List.Memᴰ
+use Rattle.earliest.proofs.Firsts.{earliest_first}
+use Rattle.earliest.specs.Places.{First}
 use Rattle.judgments.specs.Access.{Granted, Opens, Received, argument, first, second, unsealed, unlocked, Held, read, granted, Opened}
 use Rattle.judgments.specs.Contexts.{ty, ◌∶◌, Context, ◌∈◌}
 use Rattle.judgments.specs.Typing.{Key}
@@ -10,6 +12,7 @@ use Rattle.refusals.proofs.Deciding.{clash, decides_and, decides_as, decides_nev
 use Rattle.refusals.specs.Decides.{Decides}
 use Rattle.std.proofs.lemmas.List.{get_or-set_same, get_or-set_other, length-take-le, length-replicate, get_or-replicate, get_or_past}
 use Rattle.std.proofs.lemmas.Bool.{cases_Bool, cases_eq, cases_lt, eqb-false, ne_eqb, or_cases, or_left, or_right, and_from, lt-ltb, le-leb}
+use Rattle.std.proofs.lemmas.List.Sums.{fold-append}
 use Rattle.std.specs.List.{slice_get}
 use Rattle.terms.proofs.Booked.{Earlier, earlier}
 use Rattle.terms.proofs.Numbered.{row_within, row_there, row_from_one, is_row_from}
@@ -32,11 +35,11 @@ use Rattle.reading.proofs.Granting.{same_decides, any_decides, entry_declared, d
 use Rattle.reading.proofs.Growing.{Below, below_itself, below_then, below_length, below_at, below_put, below_pass, visit_same}
 use Rattle.reading.proofs.Lowest.{lowest, lowest_same, lows_long}
 use Rattle.reading.proofs.Shapes.{key, shaped}
-use Rattle.reading.specs.Any.{any}
+use Rattle.std.specs.List.{list_any}
 use Rattle.reading.specs.Grants.{item_granted, granted_by, granted_rows}
 use Rattle.reading.specs.Lows.{lows}
-use Rattle.reading.specs.Marks.{Sight, opens_now, is_open, mark_row, put, opened_row, visit, pass_from, pass, Reaches, here, onward, Closed, put_all, put_facts, held_of, closed_of, held_by, closed_by, held_rows, closed_rows}
-use Rattle.reading.specs.Openers.{locks_for, reads_as, row_of, opener_by, opener_of}
+use Rattle.reading.specs.Marks.{Sight, is_on, opens_now, is_unlocked, is_open, mark_row, put, opened_row, visit, pass_from, pass, Reaches, here, onward, Closed, put_all, put_facts, held_of, closed_of, held_by, closed_by, held_rows, closed_rows}
+use Rattle.reading.specs.Openers.{locks_for, reads_as, place_of, opener_by, opener_of}
 use Rattle.reading.specs.Scopes.{context}
 use Rattle.reading.specs.Told.{argument_rows, left_terms, Told}
 use Rattle.reading.specs.declared.openers.Opener.{Opener}
@@ -139,42 +142,41 @@ reads_item o i (row.Pair a b) e = clash (cc)
 reads_item o i (row.Seal c k) e = clash (cc)
 reads_item o i (row.Lock c k) e = clash (cc)
 
-module _ (o : Owner) (i : Item) where
-  found_from : (rows : List Row) (n : ℕ) → 0 < n → 0 < row_of o i n rows → (j : ℕ) × (x : Item) × (row_of o i n rows ≡ n + j) × (slice_get rows j ≡ Some (row.Item x)) × (item_of o x ≡ i)
-  found_from [] n low h = absurd (omega arith)
-  found_from (r ∷ rows) n low h = ⊎_elim
-      (λ t.
-      let x = reads_item o i r t in
-      let is : row_of o i n (r ∷ rows) ≡ n + 0 = rw t (omega arith) in
-      (0, x.0, is, ap Some x.1, x.2))
-      (λ f.
-      let rest = found_from rows (n + 1) (omega arith) (rw f at h) in
-      let is : row_of o i n (r ∷ rows) ≡ n + suc rest.0 = rw f (rest.2 ∙ omega arith) in
-      (suc rest.0, rest.1, is, rest.3, rest.4))
-      (cases_Bool (reads_as o i r))
+module _ (o : Owner) (i : Item) (rows : List Row) where
+  first_item : (place : Option ℕ) → place_of o i rows ≡ place → First (λ r _. reads_as o i r) (row.Pair 0 0) rows place
+  first_item place e = earliest_first (λ r _. reads_as o i r) (row.Pair 0 0) rows place (sym e)
 
-  least_from : (rows : List Row) (n j : ℕ) (x : Item) → 0 < n → slice_get rows j ≡ Some (row.Item x) → item_of o x ≡ i → (0 < row_of o i n rows) × (row_of o i n rows ≤ n + j)
-  least_from [] n j x low e s = clash (cc)
-  least_from (r ∷ rows) n zero x low e s =
-      let r_is : r ≡ row.Item x = cc in
-      let t : reads_as o i r ≡ true = ap (reads_as o i) r_is ∙ (same_decides (item_of o x) i).complete s in
-      (rw t low, rw t (omega arith))
-  least_from (r ∷ rows) n (suc j) x low e s = ⊎_elim
-      (λ t. (rw t low, rw t (omega arith)))
-      (λ f. let rest = least_from rows (n + 1) j x (omega arith) e s in (rw f rest.0, rw f (omega (arith, rest.1))))
-      (cases_Bool (reads_as o i r))
+  found_row : (n : ℕ) → place_of o i rows ≡ Some n → (x : Item) × (row_at rows (n + 1) ≡ Some (row.Item x)) × (item_of o x ≡ i)
+  found_row n e =
+      let f = (first_item (Some n) e).0 in
+      let x = reads_item o i f.0 f.2 in
+      let place : n + 1 - 1 ≡ n = omega arith in
+      (x.0, row_from_one rows (n + 1) (omega arith) ∙ ap (slice_get rows) place ∙ f.1 ∙ ap Some x.1, x.2)
 
-  found_row : (rows : List Row) → 0 < row_of o i 1 rows → (x : Item) × (row_at rows (row_of o i 1 rows) ≡ Some (row.Item x)) × (item_of o x ≡ i)
-  found_row rows h =
-      let f = found_from rows 1 (omega arith) h in
-      let place : row_of o i 1 rows - 1 ≡ f.0 = omega (arith, f.2) in
-      (f.1, row_from_one rows (row_of o i 1 rows) h ∙ ap (slice_get rows) place ∙ f.3, f.4)
+  least_row : (k : ℕ) (x : Item) → row_at rows k ≡ Some (row.Item x) → item_of o x ≡ i → (n : ℕ) × (place_of o i rows ≡ Some n) × (n + 1 ≤ k)
+  least_row k x e s = go (place_of o i rows) refl
+    where
+      low : 0 < k
+      low = (row_within rows k (row.Item x) e).0
 
-  least_row : (rows : List Row) (k : ℕ) (x : Item) → row_at rows k ≡ Some (row.Item x) → item_of o x ≡ i → (0 < row_of o i 1 rows) × (row_of o i 1 rows ≤ k)
-  least_row rows k x e s =
-      let w = row_within rows k (row.Item x) e in
-      let rest = least_from rows 1 (k - 1) x (omega arith) (sym (row_from_one rows k w.0) ∙ e) s in
-      (rest.0, omega (arith, rest.1))
+      there : slice_get rows (k - 1) ≡ Some (row.Item x)
+      there = sym (row_from_one rows k low) ∙ e
+
+      passes : reads_as o i (row.Item x) ≡ true
+      passes = (same_decides (item_of o x) i).complete s
+
+      go : (place : Option ℕ) → place_of o i rows ≡ place → (n : ℕ) × (place_of o i rows ≡ Some n) × (n + 1 ≤ k)
+      go None q = clash (cc (first_item None q (k - 1) (row.Item x) there, passes))
+      go (Some n) q =
+          let from_one = low in
+          ⊎_elim
+          (λ (l : k - 1 < n). clash (cc ((first_item (Some n) q).1 (k - 1) l (row.Item x) there, passes)))
+          (λ (l : n ≤ k - 1). (n, q, omega arith))
+          (cases_lt (k - 1) n)
+
+-- the row with a place, by its number
+on_marked : (got : List Bool) (n : ℕ) → at false got (n + 1) ≡ get_or got n false
+on_marked got n = let place : n + 1 - 1 ≡ n = omega arith in at_above false got (n + 1) (omega arith) ∙ ap (λ k. get_or got k false) place
 
 -- ---- a rule's rows, read by its owner
 module _ (lay : Meaning) (scope : List Entry) (o : Owner) (rows : List Row) (book : is_book rows ≡ true) where
@@ -229,11 +231,11 @@ module _ (lay : Meaning) (scope : List Entry) (o : Owner) (rows : List Row) (boo
     -- what an opener's flags say
     abbrev OpensNow : Item → Option Opener → Type 0
     OpensNow k None = ⊥
-    OpensNow k (Some x) = (x.key ≡ k) × ((x.granted ≡ true) ⊎ Marked got x.row)
+    OpensNow k (Some x) = (x.key ≡ k) × ((x.granted ≡ true) ⊎ (is_on got x.place ≡ true))
 
     opens_decides : (k : Item) (x : Option Opener) → Decides (opens_now got k x) (OpensNow k x)
     opens_decides k None = decides_never (λ h. h)
-    opens_decides k (Some x) = decides_and (same_decides x.key k) (record { sound = or_cases x.granted (at false got x.row); complete = ⊎_elim (or_left x.granted _) (or_right x.granted (at false got x.row)) })
+    opens_decides k (Some x) = decides_and (same_decides x.key k) (record { sound = or_cases x.granted (is_on got x.place); complete = ⊎_elim (or_left x.granted _) (or_right x.granted (is_on got x.place)) })
 
     abbrev LockOpen : Item → Type 0
     LockOpen k = (j : Item) × Opens lay Γ j k × HeldNow got j
@@ -245,13 +247,21 @@ module _ (lay : Meaning) (scope : List Entry) (o : Owner) (rows : List Row) (boo
     item_row n (row.Seal c k) j e s = clash (cc (shaped o rows book n (row.Seal c k) e))
     item_row n (row.Lock c k) j e s = clash (cc (shaped o rows book n (row.Lock c k) e))
 
+    -- the first row that is the item, where it is marked
+    placed : (j : Item) → is_on got (place_of o j rows) ≡ true → (n : ℕ) × Marked got n × (term n ≡ item j)
+    placed j y = go (place_of o j rows) refl y
+      where
+        go : (place : Option ℕ) → place_of o j rows ≡ place → is_on got place ≡ true → (n : ℕ) × Marked got n × (term n ≡ item j)
+        go None q y = clash (cc)
+        go (Some n) q y = let f = found_row o j rows n q in (n + 1, on_marked got n ∙ y, shaped o rows book _ (row.Item f.0) f.1 ∙ ap item f.2)
+
     opener_sound : (k : Item) (e : Entry) → e ∈ scope → (ps : Params Item) → e.of.params ≡ ps → OpensNow k (opener_by lay scope o rows e ps) → LockOpen k
     opener_sound k e m Zero is h = absurd h
     opener_sound k e m (Two p q) is h = absurd h
     opener_sound k e m (One p) is h = go (locks_for lay scope p e.of.family) refl h
       where
         go : (b : Bool) → locks_for lay scope p e.of.family ≡ b →
-            OpensNow k (cond b (Some (record { key = p; granted = item_granted lay scope me e.item; row = row_of o e.item 1 rows })) None) → LockOpen k
+            OpensNow k (cond b (Some (record { key = p; granted = item_granted lay scope me e.item; place = place_of o e.item rows })) None) → LockOpen k
         go false q x = absurd x
         go true q x =
             let params_are : items e.of.params ≡ k ∷ [] = ap items is ∙ ap (λ p. p ∷ []) x.0 in (
@@ -263,9 +273,7 @@ module _ (lay : Meaning) (scope : List Entry) (o : Owner) (rows : List Row) (boo
               },
               ⊎_elim
                   (λ g. inl ((granted_decides scope lay me e.item).sound g))
-                  (λ y.
-                  let f = found_row o e.item rows (marked_above got (row_of o e.item 1 rows) y) in
-                  inr (row_of o e.item 1 rows, y, shaped o rows book _ (row.Item f.0) f.1 ∙ ap item f.2))
+                  (λ y. inr (placed e.item y))
                   x.1,
             )
 
@@ -275,19 +283,19 @@ module _ (lay : Meaning) (scope : List Entry) (o : Owner) (rows : List Row) (boo
     one_param (Two p q) k e = clash (cc)
 
     -- the marked row of an item is the first that is the item
-    first_marked : (j : Item) → (n : ℕ) × Marked got n × (term n ≡ item j) → Marked got (row_of o j 1 rows)
+    first_marked : (j : Item) → (n : ℕ) × Marked got n × (term n ≡ item j) → is_on got (place_of o j rows) ≡ true
     first_marked j h =
         let c = lowly h.0 h.1 in
         let x = item_row h.0 c.0 j c.1 h.2 in
         let at_n : row_at rows h.0 ≡ Some (row.Item x.0) = c.1 ∙ ap Some x.1 in
         let l = least_row o j rows h.0 x.0 at_n x.2 in
-        let f = found_row o j rows l.0 in
-        let same : term (row_of o j 1 rows) ≡ term h.0 = shaped o rows book _ (row.Item f.0) f.1 ∙ ap item f.2 ∙ sym h.2 in
-        let least = (lowest o rows book h.0 c.0 c.1).least (row_of o j 1 rows) _ f.1 same in
-        let is : h.0 ≡ row_of o j 1 rows = omega (arith, c.2, l.1) in
-        subst (Marked got) is h.1
+        let f = found_row o j rows l.0 l.1 in
+        let same : term (l.0 + 1) ≡ term h.0 = shaped o rows book _ (row.Item f.0) f.1 ∙ ap item f.2 ∙ sym h.2 in
+        let least = (lowest o rows book h.0 c.0 c.1).least (l.0 + 1) _ f.1 same in
+        let is : h.0 ≡ l.0 + 1 = omega (arith, c.2, l.2) in
+        ap (is_on got) l.1 ∙ sym (on_marked got l.0) ∙ subst (Marked got) is h.1
 
-    lock_decides : (k : Item) → Decides (any (opens_now got k) (map (opener_of lay scope o rows) scope)) (LockOpen k)
+    lock_decides : (k : Item) → Decides (list_any (opens_now got k) (map (opener_of lay scope o rows) scope)) (LockOpen k)
     lock_decides k =
         decides_as
         (λ h.
@@ -300,10 +308,17 @@ module _ (lay : Meaning) (scope : List Entry) (o : Owner) (rows : List Row) (boo
         let ps_are : items d.0.of.params ≡ k ∷ [] = cc d.2 in
         let one = one_param d.0.of.params k ps_are in
         let locks = subst (λ F. locks_for lay scope k F ≡ true) F_is ((locks_decides scope lay me k h.1.opening).complete h.1.key) in
-        let held_one : (item_granted lay scope me d.0.item ≡ true) ⊎ Marked got (row_of o d.0.item 1 rows) = subst (λ j. (item_granted lay scope me j ≡ true) ⊎ Marked got (row_of o j 1 rows)) (sym i_is) (⊎_elim (λ g. inl ((granted_decides scope lay me h.0).complete g)) (λ x. inr (first_marked h.0 x)) h.2) in
-        let opener = subst (λ b. OpensNow k (cond b (Some (record { key = k; granted = item_granted lay scope me d.0.item; row = row_of o d.0.item 1 rows })) None)) (sym locks) (refl, held_one) in
+        let held_one : (item_granted lay scope me d.0.item ≡ true) ⊎ (is_on got (place_of o d.0.item rows) ≡ true) = subst (λ j. (item_granted lay scope me j ≡ true) ⊎ (is_on got (place_of o j rows) ≡ true)) (sym i_is) (⊎_elim (λ g. inl ((granted_decides scope lay me h.0).complete g)) (λ x. inr (first_marked h.0 x)) h.2) in
+        let opener = subst (λ b. OpensNow k (cond b (Some (record { key = k; granted = item_granted lay scope me d.0.item; place = place_of o d.0.item rows })) None)) (sym locks) (refl, held_one) in
         (opener_of lay scope o rows d.0, Memᴰ.map (opener_of lay scope o rows) d.1, subst (λ ps. OpensNow k (opener_by lay scope o rows d.0 ps)) (sym one) opener))
         (any_decides (opens_now got k) (OpensNow k) (opens_decides k) (map (opener_of lay scope o rows) scope))
+
+    -- a lock, whose key is an item
+    open_lock : (c k : ℕ) (i : Item) → row_at rows k ≡ Some (row.Item i) → Decides (is_open sight got (row.Lock c k)) (LockOpen (key o rows k))
+    open_lock c k i e =
+        let key_is : key o rows k ≡ item_of o i = ap (λ x. item_of o (item_in x)) e in
+        let same = ap (λ j. list_any (opens_now got j) (map (opener_of lay scope o rows) scope)) key_is ∙ sym (ap (is_unlocked sight got) e) in
+        subst (λ b. Decides b (LockOpen (key o rows k))) same (lock_decides (key o rows k))
 
   -- ---- each mark has its reason
   pub record Sound (left : List Term) (got : List Bool) : Type 0 where
@@ -371,7 +386,7 @@ module _ (lay : Meaning) (scope : List Entry) (o : Owner) (rows : List Row) (boo
           let p = part_there n c (row.Lock c k) e early.0 in
           let locked = whole (row.Lock c k) e (lock (term c) (key o rows k)) (shaped o rows book n (row.Lock c k) e) in
           sound_cond (is_open sight got (row.Lock c k)) got (put (lows o rows) got c) s
-          (λ t. let h = (lock_decides got s.lowly (key o rows k)).sound t in sound_put got s c p.0 p.1 (unlocked locked h.1 (held_sound got s h.0 h.2)))
+          (λ t. let h = (open_lock got s.lowly c k early.2.0 early.2.1).sound t in sound_put got s c p.0 p.1 (unlocked locked h.1 (held_sound got s h.0 h.2)))
 
     sound_visit : (got : List Bool) (n : ℕ) → Sound left got → Sound left (visit sight got n)
     sound_visit got n s = sound_cond (at false got n) got (opened_row sight got (row_at rows n)) s (λ m. sound_opened got s n m (row_at rows n) refl)
@@ -433,7 +448,7 @@ module _ (lay : Meaning) (scope : List Entry) (o : Owner) (rows : List Row) (boo
       lock_content : (n c k : ℕ) → row_at rows n ≡ Some (row.Lock c k) → Marked got n → LockOpen got s.lowly (key o rows k) → Got (term c)
       lock_content n c k e m h =
           let early = earlier rows book n (row.Lock c k) e in
-          let opens = (lock_decides got s.lowly (key o rows k)).complete h in
+          let opens = (open_lock got s.lowly c k early.2.0 early.2.1).complete h in
           content n c (row.Lock c k) e early.0 (subst (λ b. cond b (put (lows o rows) got c) got ≡ got) opens (nothing_new n (row.Lock c k) e m))
 
       got_pair : (n : ℕ) (r : Row) (a b : Term) → row_at rows n ≡ Some r → Marked got n → term n ≡ pair a b → Got a × Got b
@@ -501,11 +516,12 @@ module _ (lay : Meaning) (scope : List Entry) (o : Owner) (rows : List Row) (boo
           (subst (λ t. Decides (at false got (low k)) (Received lay Γ me left t)) is (received_decides k (row.Seal c j) e))
           (subst (λ i. Decides (is_open sight got (row.Seal c j)) (Held lay Γ me left i)) key_is (holding_decides j early.2.0 early.2.1)))
       open_decides k (row.Lock c j) e =
+          let early = earlier rows book k (row.Lock c j) e in
           let is = shaped o rows book k (row.Lock c j) e in
           subst (λ t. Decides (not (closed_of sight got k (row.Lock c j))) (Opened lay Γ me left t)) (sym is)
           (decides_implies (at false got (low k)) (is_open sight got (row.Lock c j))
           (subst (λ t. Decides (at false got (low k)) (Received lay Γ me left t)) is (received_decides k (row.Lock c j) e))
-          (decides_as (λ h. (h.0, h.1, held_sound got s h.0 h.2)) (λ h. (h.0, h.1, held_now h.0 h.2)) (lock_decides got s.lowly (key o rows j))))
+          (decides_as (λ h. (h.0, h.1, held_sound got s h.0 h.2)) (λ h. (h.0, h.1, held_now h.0 h.2)) (open_lock got s.lowly c j early.2.0 early.2.1)))
 
       told_by : Told lay Γ o rows left (held_rows sight got) (closed_rows sight got)
       told_by = record {
@@ -548,13 +564,9 @@ module _ (lay : Meaning) (scope : List Entry) (o : Owner) (rows : List Row) (boo
     below_reached got got' here = below_itself got
     below_reached got got' (onward {got' = mid} x) = below_then got mid (pass sight mid) (below_reached got mid x) (below_pass sight (length rows) mid)
 
-  put_join : (xs ys : List ℕ) (got : List Bool) → put_all (lows o rows) got (xs ++ ys) ≡ put_all (lows o rows) (put_all (lows o rows) got xs) ys
-  put_join [] ys got = refl
-  put_join (x ∷ xs) ys got = put_join xs ys (put (lows o rows) got x)
-
   facts_put : (fs : List Fact) (got : List Bool) → put_facts (lows o rows) got fs ≡ put_all (lows o rows) got (argument_rows fs)
   facts_put [] got = refl
-  facts_put (f ∷ fs) got = facts_put fs (put_all (lows o rows) got (vec_items f.rows)) ∙ sym (put_join (vec_items f.rows) (argument_rows fs) got)
+  facts_put (f ∷ fs) got = facts_put fs (put_all (lows o rows) got (vec_items f.rows)) ∙ sym (fold-append (put (lows o rows)) got (vec_items f.rows) (argument_rows fs))
 
   -- the marks of the facts' arguments, closed, tell what is held and what stays closed
   pub told : (fs : List Fact) (got : List Bool) → Closed sight (put_facts (lows o rows) (replicate (length rows) false) fs) got → Told lay Γ o rows (left_terms o rows fs) (held_rows sight got) (closed_rows sight got)
@@ -577,17 +589,18 @@ module _ (lay : Meaning) (scope : List Entry) (o : Owner) (rows : List Row) (boo
       row_is : (k : ℕ) (r : Row) → row_at rows k ≡ Some r → is_row (length rows) k ≡ true
       row_is k r e = let w = row_within rows k r e in and_from _ _ (lt-ltb 0 k w.0) (le-leb k (length rows) w.1)
 
--- the same of a sight that the code put together, and of the tables that it filled
-module _ (lay : Meaning) (scope : List Entry) (o : Owner) (rows : List Row) (book : is_book rows ≡ true) where
-  abbrev put_together : List ℕ → List Bool → List (Option Opener) → Sight
-  put_together ls gs os = record { rows = rows; low = ls; granted = gs; openers = os; owner = o }
+-- a sight of the tables that the code filled
+abbrev pub put_together : Owner → List Row → List ℕ → List Bool → List (Option Opener) → Sight
+put_together o rows ls gs os = record { rows = rows; low = ls; granted = gs; openers = os; owner = o }
 
-  pub told_at : (fs : List Fact) (ls : List ℕ) (gs : List Bool) (os : List (Option Opener)) (got got' held closed : List Bool) → ls ≡ lows o rows → gs ≡ granted_rows lay scope o rows → os ≡ map (opener_of lay scope o rows) scope →
-      got ≡ got' → Closed (put_together ls gs os) (put_facts ls (replicate (length rows) false) fs) got → held ≡ held_rows (put_together ls gs os) got' → closed ≡ closed_rows (put_together ls gs os) got' →
+-- the same of such a sight
+module _ (lay : Meaning) (scope : List Entry) (o : Owner) (rows : List Row) (book : is_book rows ≡ true) where
+  pub told_at : (fs : List Fact) (ls : List ℕ) (gs : List Bool) (os : List (Option Opener)) (got held closed : List Bool) → ls ≡ lows o rows → gs ≡ granted_rows lay scope o rows → os ≡ map (opener_of lay scope o rows) scope →
+      Closed (put_together o rows ls gs os) (put_facts ls (replicate (length rows) false) fs) got → held ≡ held_rows (put_together o rows ls gs os) got → closed ≡ closed_rows (put_together o rows ls gs os) got →
       Told lay (context scope) o rows (left_terms o rows fs) held closed
-  told_at fs ls gs os got got' held closed p q s same c h k =
-      let is : put_together ls gs os ≡ sight lay scope o rows book = rw (p, q, s) refl in
+  told_at fs ls gs os got held closed p q s c h k =
+      let is : put_together o rows ls gs os ≡ sight lay scope o rows book = rw (p, q, s) refl in
       let ended : Closed (sight lay scope o rows book) (put_facts (lows o rows) (replicate (length rows) false) fs) got = subst (λ (w : Sight). Closed w (put_facts w.low (replicate (length rows) false) fs) got) is c in
-      let held_is : held_rows (sight lay scope o rows book) got ≡ held = sym (h ∙ ap₂ held_rows is (sym same)) in
-      let closed_is : closed_rows (sight lay scope o rows book) got ≡ closed = sym (k ∙ ap₂ closed_rows is (sym same)) in
+      let held_is : held_rows (sight lay scope o rows book) got ≡ held = sym (h ∙ ap (λ w. held_rows w got) is) in
+      let closed_is : closed_rows (sight lay scope o rows book) got ≡ closed = sym (k ∙ ap (λ w. closed_rows w got) is) in
       subst₂ (Told lay (context scope) o rows (left_terms o rows fs)) held_is closed_is (told lay scope o rows book fs got ended)

@@ -1,7 +1,9 @@
 -- What is worked out row by row, at a number.
-use Rattle.std.proofs.Common.{◌≡◌, ℕ, ◌+◌, ◌-◌, ◌≤◌, true, false, eqb, List, [], ◌∷◌, ◌++◌, length, get_or, take, drop, Some, sym, refl, ap, ◌∙◌, ap₂, append_assoc, append-nil, arith}
+use Rattle.std.proofs.Common.{◌≡◌, ℕ, ◌+◌, ◌-◌, ◌≤◌, true, false, eqb, List, [], ◌∷◌, ◌++◌, length, replicate, get_or, take, drop, Some, sym, refl, ap, ◌∙◌, ap₂, append_assoc, append-nil, arith}
 use Rattle.std.proofs.lemmas.List.{length_push, length-take-le, take-append-drop, drop_more}
 use Rattle.std.proofs.lemmas.Bool.{ne_eqb, eq-eqb}
+use Rattle.std.proofs.Math.Seq.{take-append_seam}
+use Rattle.std.specs.List.{refill}
 use Rattle.terms.proofs.Numbered.{row_within, row_there}
 use Rattle.terms.specs.declared.row.Row.{Row}
 use Rattle.types.proofs.Rowed.{at_push}
@@ -57,3 +59,12 @@ module _ {A : Type 0} (f : List Row → List A → Row → A) where
       let G = fill f [] [] P in
       let long : length G ≡ n = fill_long [] [] P ∙ (let t = length-take-le n rows h in omega arith) in
       sym (ap (λ xs. at d (fill f [] [] xs) a) (sym (take-append-drop n rows)) ∙ ap (λ xs. at d xs a) (fill_split [] [] P (drop n rows)) ∙ fill_kept d P G (drop n rows) a (omega arith))
+
+-- the same of each row
+pub fill_every : {A : Type 0} (x : A) (seen : List Row) (got : List A) (rows : List Row) → fill (λ _ _ _. x) seen got rows ≡ got ++ replicate (length rows) x
+fill_every x seen got [] = sym (append-nil got)
+fill_every x seen got (r ∷ rows) = fill_every x (seen ++ r ∷ []) (got ++ x ∷ []) rows ∙ append_assoc got (x ∷ []) (replicate (length rows) x)
+
+-- what a slice of as many elements writes
+pub refilled : {A : Type 0} (xs ws : List A) → length ws ≡ length xs → ws ≡ refill (length xs) xs ws
+refilled xs ws e = sym (ap (λ n. take n (ws ++ drop (length ws) xs)) (sym e) ∙ take-append_seam ws (drop (length ws) xs))

@@ -16,7 +16,7 @@ use Rattle.terms.specs.declared.row.Item.{Item}
 use Rattle.terms.specs.declared.row.Item.TheVariants.{Name, Variable}
 use Rattle.theory.specs.Data as tables
 use Rattle.types.specs.Types.{items}
-use Rattle.reading.specs.Any.{any}
+use Rattle.std.specs.List.{list_any}
 use Rattle.reading.specs.Grants.{above_grants, grants_by, type_granted, entry_grants, item_granted}
 use Rattle.reading.specs.Openers.{opened_by, entry_locks, locks_for}
 use Rattle.reading.specs.Scopes.{decl_of, context}
@@ -30,19 +30,19 @@ same_decides (Variable v) (Variable w) = decides_as (λ e. ap Variable e) (λ e.
 
 -- some element is as it should be
 module _ {A : Type 0} (p : A → Bool) (P : A → Type 0) (each : (x : A) → Decides (p x) (P x)) where
-  any_sound : (xs : List A) → any p xs ≡ true → (x : A) × (x ∈ xs) × P x
+  any_sound : (xs : List A) → list_any p xs ≡ true → (x : A) × (x ∈ xs) × P x
   any_sound [] e = clash (cc)
   any_sound (x ∷ xs) e = ⊎_elim
       (λ t. (x, Memᴰ.head refl, (each x).sound t))
       (λ t. let rest = any_sound xs t in (rest.0, Memᴰ.tail rest.1, rest.2))
-      (or_cases (p x) (any p xs) e)
+      (or_cases (p x) (list_any p xs) e)
 
-  any_complete : (xs : List A) (x : A) → x ∈ xs → P x → any p xs ≡ true
+  any_complete : (xs : List A) (x : A) → x ∈ xs → P x → list_any p xs ≡ true
   any_complete [] x m h = elim m [ ]
-  any_complete (y ∷ xs) x (Memᴰ.head e) h = or_left (p y) (any p xs) ((each y).complete (subst P e h))
-  any_complete (y ∷ xs) x (Memᴰ.tail m) h = or_right (p y) (any p xs) (any_complete xs x m h)
+  any_complete (y ∷ xs) x (Memᴰ.head e) h = or_left (p y) (list_any p xs) ((each y).complete (subst P e h))
+  any_complete (y ∷ xs) x (Memᴰ.tail m) h = or_right (p y) (list_any p xs) (any_complete xs x m h)
 
-  pub any_decides : (xs : List A) → Decides (any p xs) ((x : A) × (x ∈ xs) × P x)
+  pub any_decides : (xs : List A) → Decides (list_any p xs) ((x : A) × (x ∈ xs) × P x)
   any_decides xs = record { sound = any_sound xs; complete = λ h. any_complete xs h.0 h.1 h.2 }
 
 module _ (scope : List Entry) where

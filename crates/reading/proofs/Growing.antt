@@ -1,19 +1,19 @@
 -- Marks only grow: no pass takes one off.
 use Rattle.std.proofs.Common.{◌≡◌, ℕ, zero, suc, ◌-◌, ◌<◌, ◌≤◌, Bool, true, false, cond, eqb, ◌⊎◌, List, [], ◌∷◌, length, get_or, set, Some, None, Option, sym, refl, ap, ◌∙◌, subst, inl, inr, ⊎_elim, arith}
 use Rattle.std.proofs.lemmas.Bool.{cases_lt}
+use Rattle.std.proofs.lemmas.Slice.Zip.{AllZip-long}
+use Rattle.std.specs.List.{AllZip}
+use Rattle.std.proofs.lemmas.List.Sums.{sum_by-cons}
 use Rattle.terms.specs.Rows.{is_row}
 use Rattle.terms.specs.declared.row.Row.{Row}
 use Rattle.terms.specs.declared.row.Row.TheVariants as row
 use Rattle.refusals.proofs.Deciding.{clash}
 use Rattle.types.specs.Rows.{at, row_at}
-use Rattle.reading.specs.Marks.{Sight, is_open, put, opened_row, visit, pass_from, ons}
+use Rattle.reading.specs.Marks.{Sight, is_open, put, opened_row, visit, pass_from, pass, ons}
 
 -- each mark of the first list is on in the second, which is as long
 abbrev pub Below : List Bool → List Bool → Type 0
-Below [] [] = Unit {0}
-Below [] (b ∷ ys) = ⊥
-Below (a ∷ xs) [] = ⊥
-Below (a ∷ xs) (b ∷ ys) = (a ≡ true → b ≡ true) × Below xs ys
+Below xs ys = AllZip (λ a b. a ≡ true → b ≡ true) xs ys
 
 pub below_itself : (xs : List Bool) → Below xs xs
 below_itself [] = tt
@@ -33,10 +33,7 @@ below_set (x ∷ xs) zero = ((λ e. refl), below_itself xs)
 below_set (x ∷ xs) (suc k) = ((λ e. e), below_set xs k)
 
 pub below_length : (xs ys : List Bool) → Below xs ys → length ys ≡ length xs
-below_length [] [] p = refl
-below_length [] (y ∷ ys) p = absurd p
-below_length (x ∷ xs) [] p = absurd p
-below_length (x ∷ xs) (y ∷ ys) p = ap suc (below_length xs ys p.1)
+below_length xs ys p = AllZip-long (λ a b. a ≡ true → b ≡ true) xs ys p
 
 below_get_or : (xs ys : List Bool) → Below xs ys → (k : ℕ) → get_or xs k false ≡ true → get_or ys k false ≡ true
 below_get_or [] [] p k e = e
@@ -52,29 +49,30 @@ below_at xs ys p k e = go (eqb k 0) e
     go true e = e
     go false e = below_get_or xs ys p (k - 1) e
 
+on_more : (xs : List Bool) → ons (true ∷ xs) ≡ suc (ons xs)
+on_more xs = sum_by-cons (λ b. cond b 1 0) true xs ∙ omega arith
+
+off_more : (xs : List Bool) → ons (false ∷ xs) ≡ ons xs
+off_more xs = sum_by-cons (λ b. cond b 1 0) false xs ∙ omega arith
+
 pub below_ons : (xs ys : List Bool) → Below xs ys → ons xs ≤ ons ys
 below_ons [] [] p = omega arith
 below_ons [] (y ∷ ys) p = absurd p
 below_ons (x ∷ xs) [] p = absurd p
-below_ons (true ∷ xs) (true ∷ ys) p = let rest = below_ons xs ys p.1 in omega arith
+below_ons (true ∷ xs) (true ∷ ys) p = omega (arith, below_ons xs ys p.1, on_more xs, on_more ys)
 below_ons (true ∷ xs) (false ∷ ys) p = clash (cc (p.0 refl))
-below_ons (false ∷ xs) (true ∷ ys) p = let rest = below_ons xs ys p.1 in omega arith
-below_ons (false ∷ xs) (false ∷ ys) p = below_ons xs ys p.1
+below_ons (false ∷ xs) (true ∷ ys) p = omega (arith, below_ons xs ys p.1, off_more xs, on_more ys)
+below_ons (false ∷ xs) (false ∷ ys) p = omega (arith, below_ons xs ys p.1, off_more xs, off_more ys)
 
 -- as many marks are the same marks
 pub below_same : (xs ys : List Bool) → Below xs ys → ons ys ≤ ons xs → xs ≡ ys
 below_same [] [] p e = refl
 below_same [] (y ∷ ys) p e = absurd p
 below_same (x ∷ xs) [] p e = absurd p
-below_same (true ∷ xs) (true ∷ ys) p e = ap (λ zs. true ∷ zs) (below_same xs ys p.1 (omega arith))
+below_same (true ∷ xs) (true ∷ ys) p e = ap (λ zs. true ∷ zs) (below_same xs ys p.1 (omega (arith, e, on_more xs, on_more ys)))
 below_same (true ∷ xs) (false ∷ ys) p e = clash (cc (p.0 refl))
-below_same (false ∷ xs) (true ∷ ys) p e = let rest = below_ons xs ys p.1 in absurd (omega arith)
-below_same (false ∷ xs) (false ∷ ys) p e = ap (λ zs. false ∷ zs) (below_same xs ys p.1 e)
-
-pub ons_length : (xs : List Bool) → ons xs ≤ length xs
-ons_length [] = omega arith
-ons_length (true ∷ xs) = let rest = ons_length xs in omega arith
-ons_length (false ∷ xs) = let rest = ons_length xs in omega arith
+below_same (false ∷ xs) (true ∷ ys) p e = absurd (omega (arith, e, below_ons xs ys p.1, off_more xs, on_more ys))
+below_same (false ∷ xs) (false ∷ ys) p e = ap (λ zs. false ∷ zs) (below_same xs ys p.1 (omega (arith, e, off_more xs, off_more ys)))
 
 below_cond : (b : Bool) (xs ys : List Bool) → Below xs ys → Below xs (cond b ys xs)
 below_cond true xs ys p = p
@@ -97,6 +95,9 @@ module _ (w : Sight) where
   pub below_pass : (n : ℕ) (got : List Bool) → Below got (pass_from w n got)
   below_pass zero got = below_itself got
   below_pass (suc n) got = below_then got (visit w got (suc n)) (pass_from w n (visit w got (suc n))) (below_visit got (suc n)) (below_pass n (visit w got (suc n)))
+
+  pub pass_grows : (got got' : List Bool) → got' ≡ pass w got → Below got got'
+  pass_grows got got' e = subst (Below got) (sym e) (below_pass (length w.rows) got)
 
   -- a pass that adds nothing leaves every row as it was visited
   pub visit_same : (n : ℕ) (got : List Bool) → pass_from w n got ≡ got → (k : ℕ) → 0 < k → k ≤ n → visit w got k ≡ got

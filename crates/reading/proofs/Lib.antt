@@ -1,4 +1,3 @@
-pub mod Turns
 pub mod Growing
 pub mod Filled
 pub mod Shapes

@@ -7,13 +7,12 @@ use Rattle.std.proofs.lemmas.List.{length_push, length-take-le, take-append-drop
 use Rattle.std.proofs.lemmas.Bool.{ne_eqb, eq-eqb, eqb-true, and_parts, cases_lt}
 use Rattle.std.specs.List.{slice_get}
 use Rattle.terms.proofs.Booked.{Earlier, EarlierParts, earlier}
-use Rattle.terms.proofs.Numbered.{row_within, row_there, row_from_one, nth_within}
+use Rattle.terms.proofs.Numbered.{row_within, row_there, row_from_one, nth_within, same_itself}
 use Rattle.terms.specs.Adding.{number_in}
 use Rattle.terms.specs.Books.{is_book}
-use Rattle.terms.specs.Rows.{same_item, same_row}
+use Rattle.terms.specs.Rows.{same_row}
 use Rattle.terms.specs.Terms.{Term, item, pair, seal, lock}
 use Rattle.terms.specs.declared.row.Item.{Item}
-use Rattle.terms.specs.declared.row.Item.TheVariants.{Name, Variable}
 use Rattle.terms.specs.declared.row.Row.{Row}
 use Rattle.terms.specs.declared.row.Row.TheVariants as row
 use Rattle.theory.specs.Owners.{item_of}
@@ -21,22 +20,17 @@ use Rattle.theory.specs.declared.owner.Owner.{Owner}
 use Rattle.types.proofs.Rowed.{row_at_push}
 use Rattle.types.specs.Facts.{item_in}
 use Rattle.types.specs.Rows.{at, row_at, term_at}
+use Rattle.reading.proofs.Granting.{same_decides}
 use Rattle.reading.proofs.Filled.{at_push_before, at_push_last, split_at}
 use Rattle.reading.proofs.Shapes.{key, shaped}
 use Rattle.reading.specs.Lows.{reduced, lowered, lows}
 
 -- ---- equal rows
-item_same : (i j : Item) → same_item i j ≡ true → i ≡ j
-item_same (Name m) (Name n) e = ap Name (eqb-true m n e)
-item_same (Name m) (Variable w) e = clash (cc)
-item_same (Variable v) (Name n) e = clash (cc)
-item_same (Variable v) (Variable w) e = ap Variable (eqb-true v w e)
-
 two_same : {A : Type 0} (f : ℕ → ℕ → A) (a b c d : ℕ) → (eqb a c && eqb b d) ≡ true → f a b ≡ f c d
 two_same f a b c d e = let p = and_parts (eqb a c) (eqb b d) e in ap₂ f (eqb-true a c p.0) (eqb-true b d p.1)
 
 row_same : (q r : Row) → same_row q r ≡ true → q ≡ r
-row_same (row.Item i) (row.Item j) e = ap row.Item (item_same i j e)
+row_same (row.Item i) (row.Item j) e = ap row.Item ((same_decides i j).sound e)
 row_same (row.Item i) (row.Pair c d) e = clash (cc)
 row_same (row.Item i) (row.Seal c d) e = clash (cc)
 row_same (row.Item i) (row.Lock c d) e = clash (cc)
@@ -175,18 +169,8 @@ module _ (o : Owner) where
         at_place : (j : ℕ) (q : Row) → 0 < j → j < k → row_at rows j ≡ Some q → slice_get S (j - 1) ≡ Some (reduced o L q)
         at_place j q low_j below x = sym (row_from_one S j low_j) ∙ early_row k r e j (omega arith) ∙ red_here j q x
 
-        itself : (q : Row) → same_row q q ≡ true
-        itself (row.Item (Name n)) = eq-eqb n n refl
-        itself (row.Item (Variable v)) = eq-eqb v v refl
-        itself (row.Pair a b) = both a b
-          where
-            both : (a b : ℕ) → (eqb a a && eqb b b) ≡ true
-            both a b = rw (eq-eqb a a refl, eq-eqb b b refl) refl
-        itself (row.Seal a b) = rw (eq-eqb a a refl, eq-eqb b b refl) refl
-        itself (row.Lock a b) = rw (eq-eqb a a refl, eq-eqb b b refl) refl
-
         differs : (j : ℕ) (q : Row) → same_row (reduced o L q) (reduced o L r) ≡ false → reduced o L q ≡ reduced o L r → ⊥
-        differs j q f x = clash (cc (f, subst (λ y. same_row (reduced o L q) y ≡ true) x (itself (reduced o L q))))
+        differs j q f x = clash (cc (f, subst (λ y. same_row (reduced o L q) y ≡ true) x (same_itself (reduced o L q))))
 
         go : (a : Option ℕ) → earliest same_row (reduced o L r) S ≡ a → FirstLike k r
         go None x =

@@ -12,7 +12,7 @@ use Rattle.theory.specs.Data.{Ty}
 use Rattle.theory.specs.declared.owner.Owner.{Owner}
 use Rattle.types.specs.Rows.{fill}
 use Rattle.types.specs.Types.{items}
-use Rattle.reading.specs.Any.{any}
+use Rattle.std.specs.List.{list_any}
 use Rattle.reading.specs.declared.scope.Entry.{Entry}
 
 -- The entry declares p, the first parameter of the type, so that the type's items are granted.
@@ -23,7 +23,7 @@ above_grants lay o T p e =
 
 abbrev pub grants_by : Meaning → List Entry → Item → Ty → Option Item → Bool
 grants_by lay scope o T None = lay.grants (item_code o) T.family 0 0 0
-grants_by lay scope o T (Some p) = any (above_grants lay o T p) scope
+grants_by lay scope o T (Some p) = list_any (above_grants lay o T p) scope
 
 -- Items of the type are granted to the owner o.
 abbrev pub type_granted : Meaning → List Entry → Item → Ty → Bool
@@ -34,7 +34,7 @@ entry_grants lay scope o i e = same_item e.item i && type_granted lay scope o e.
 
 -- The item is granted to the owner o, by one of its declarations.
 abbrev pub item_granted : Meaning → List Entry → Item → Item → Bool
-item_granted lay scope o i = any (entry_grants lay scope o i) scope
+item_granted lay scope o i = list_any (entry_grants lay scope o i) scope
 
 abbrev pub row_granted : Meaning → List Entry → Owner → Row → Bool
 row_granted lay scope o (row.Item i) = item_granted lay scope (owner_item o) (item_of o i)

@@ -1,4 +1,3 @@
-pub mod Any
 pub mod Scopes
 pub mod Grants
 pub mod Openers

@@ -1,5 +1,5 @@
 -- Marks on rows: those received so far, and what a pass over them adds.
-use Rattle.std.specs.Prelude.{◌≡◌, ℕ, zero, suc, ◌+◌, ◌-◌, Bool, true, false, cond, not, ◌&&◌, ◌||◌, List, [], ◌∷◌, length, Some, None, vec_items, Option, slice_set}
+use Rattle.std.specs.Prelude.{◌≡◌, ℕ, zero, suc, ◌+◌, ◌-◌, Bool, true, false, cond, not, ◌&&◌, ◌||◌, List, [], length, Some, None, vec_items, Option, slice_set, slice_index_or, fold, count_by}
 use Rattle.terms.specs.Rows.{same_item, is_row}
 use Rattle.terms.specs.declared.row.Item.{Item}
 use Rattle.terms.specs.declared.row.Row.{Row}
@@ -7,9 +7,9 @@ use Rattle.terms.specs.declared.row.Row.TheVariants as row
 use Rattle.theory.specs.Owners.{item_of}
 use Rattle.theory.specs.declared.data.Fact.{Fact}
 use Rattle.theory.specs.declared.owner.Owner.{Owner}
-use Rattle.types.specs.Facts.{item_in}
+use Rattle.terms.specs.Held.{rows_of}
 use Rattle.types.specs.Rows.{at, row_at, fill}
-use Rattle.reading.specs.Any.{any}
+use Rattle.std.specs.List.{list_any}
 use Rattle.reading.specs.declared.marks.View.{View}
 use Rattle.reading.specs.declared.openers.Opener.{Opener}
 
@@ -22,22 +22,40 @@ pub record Sight : Type 0 where
   pub owner : Owner
 
 abbrev pub sight_of : View → Sight
-sight_of v = record { rows = v.rows.now; low = v.low.now; granted = v.granted.now; openers = v.openers.now; owner = v.owner }
+sight_of v = record { rows = rows_of v.book.now; low = v.low.now; granted = v.granted.now; openers = v.openers.now; owner = v.owner }
+
+-- The row with the place, if there is one, is marked.
+abbrev pub is_on : List Bool → Option ℕ → Bool
+is_on got None = false
+is_on got (Some n) = slice_index_or got n false
 
 -- The opener is for the key, and is held: granted, or received.
 abbrev pub opens_now : List Bool → Item → Option Opener → Bool
 opens_now got k None = false
-opens_now got k (Some x) = same_item x.key k && (x.granted || at false got x.row)
+opens_now got k (Some x) = same_item x.key k && (x.granted || is_on got x.place)
 
-abbrev pub key_of : Sight → ℕ → Item
-key_of w k = item_of w.owner (item_in (row_at w.rows k))
+-- The term of the row is received: its lowest row is marked.
+abbrev pub received : Sight → List Bool → ℕ → Bool
+received w got k = at false got (at 0 w.low k)
+
+-- The item of the row is held: received, or granted.
+abbrev pub held_of : Sight → List Bool → ℕ → Bool
+held_of w got k = received w got k || at false w.granted k
+
+-- The row is the item of a key, and some opener of it is held.
+abbrev pub is_unlocked : Sight → List Bool → Option Row → Bool
+is_unlocked w got None = false
+is_unlocked w got (Some (row.Item i)) = list_any (opens_now got (item_of w.owner i)) w.openers
+is_unlocked w got (Some (row.Pair a b)) = false
+is_unlocked w got (Some (row.Seal c k)) = false
+is_unlocked w got (Some (row.Lock c k)) = false
 
 -- The row is no seal or lock, or the key of the seal is held, or an opener of the lock.
 abbrev pub is_open : Sight → List Bool → Row → Bool
 is_open w got (row.Item i) = true
 is_open w got (row.Pair a b) = true
-is_open w got (row.Seal c k) = at false got (at 0 w.low k) || at false w.granted k
-is_open w got (row.Lock c k) = any (opens_now got (key_of w k)) w.openers
+is_open w got (row.Seal c k) = held_of w got k
+is_open w got (row.Lock c k) = is_unlocked w got (row_at w.rows k)
 
 abbrev pub mark_row : List Bool → ℕ → List Bool
 mark_row got n = cond (is_row (length got) n) (slice_set got (n - 1) true) got
@@ -77,25 +95,18 @@ pub record Closed (w : Sight) (got got' : List Bool) : Type 0 where
 
 -- How many marks are on.
 abbrev pub ons : List Bool → ℕ
-ons [] = 0
-ons (b ∷ bs) = cond b (suc (ons bs)) (ons bs)
+ons bs = count_by (λ b. b) bs
 
 abbrev pub put_all : List ℕ → List Bool → List ℕ → List Bool
-put_all low got [] = got
-put_all low got (k ∷ ks) = put_all low (put low got k) ks
+put_all low got ks = fold (put low) got ks
 
 -- The arguments of the facts are marked.
 abbrev pub put_facts : List ℕ → List Bool → List Fact → List Bool
-put_facts low got [] = got
-put_facts low got (f ∷ fs) = put_facts low (put_all low got (vec_items f.rows)) fs
-
--- The item of the row is held: received, or granted.
-abbrev pub held_of : Sight → List Bool → ℕ → Bool
-held_of w got k = at false got (at 0 w.low k) || at false w.granted k
+put_facts low got fs = fold (λ marks f. put_all low marks (vec_items f.rows)) got fs
 
 -- The row is received, and stays closed.
 abbrev pub closed_of : Sight → List Bool → ℕ → Row → Bool
-closed_of w got k r = at false got (at 0 w.low k) && not (is_open w got r)
+closed_of w got k r = received w got k && not (is_open w got r)
 
 abbrev pub held_by : Sight → List Bool → List Row → List Bool → Row → Bool
 held_by w got seen had r = held_of w got (length seen + 1)

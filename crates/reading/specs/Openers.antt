@@ -1,5 +1,5 @@
 -- Which items of a scope open what is locked under a key, by tests.
-use Rattle.std.specs.Prelude.{ℕ, ◌+◌, Bool, false, cond, ◌&&◌, List, [], ◌∷◌, Some, None, Option, ◌==◌}
+use Rattle.std.specs.Prelude.{ℕ, Bool, false, cond, ◌&&◌, List, Some, None, Option, ◌==◌}
 use Rattle.layouts.specs.Meanings.{Meaning}
 use Rattle.layouts.specs.declared.layout.Kind.{Kind}
 use Rattle.layouts.specs.declared.layout.Kind.TheVariants.{Plain, Sealing, Locking}
@@ -11,7 +11,7 @@ use Rattle.theory.specs.Owners.{owner_item, item_of}
 use Rattle.layouts.specs.declared.layout.Params.{Params}
 use Rattle.layouts.specs.declared.layout.Params.TheVariants.{Zero, One, Two}
 use Rattle.theory.specs.declared.owner.Owner.{Owner}
-use Rattle.reading.specs.Any.{any}
+use Rattle.std.specs.List.{list_any, position_from}
 use Rattle.reading.specs.Grants.{item_granted}
 use Rattle.reading.specs.declared.openers.Opener.{Opener}
 use Rattle.reading.specs.declared.scope.Entry.{Entry}
@@ -27,7 +27,7 @@ entry_locks lay k F e = same_item e.item k && opened_by (lay.kind e.of.family) F
 
 -- The item k is declared as a key, and the family opens what it locks.
 abbrev pub locks_for : Meaning → List Entry → Item → ℕ → Bool
-locks_for lay scope k F = any (entry_locks lay k F) scope
+locks_for lay scope k F = list_any (entry_locks lay k F) scope
 
 -- The row is the item, as the owner reads it.
 abbrev pub reads_as : Owner → Item → Row → Bool
@@ -36,14 +36,13 @@ reads_as o i (row.Pair a b) = false
 reads_as o i (row.Seal c k) = false
 reads_as o i (row.Lock c k) = false
 
--- The number of the first row that is the item, the first having the number n; 0 where none is.
-abbrev pub row_of : Owner → Item → ℕ → List Row → ℕ
-row_of o i n [] = 0
-row_of o i n (r ∷ rows) = cond (reads_as o i r) n (row_of o i (n + 1) rows)
+-- The place, counted from 0, of the first row that is the item.
+abbrev pub place_of : Owner → Item → List Row → Option ℕ
+place_of o i rows = position_from (reads_as o i) 0 rows
 
 abbrev pub opener_by : Meaning → List Entry → Owner → List Row → Entry → Params Item → Option Opener
 opener_by lay scope o rows e Zero = None
-opener_by lay scope o rows e (One k) = cond (locks_for lay scope k e.of.family) (Some (record { key = k; granted = item_granted lay scope (owner_item o) e.item; row = row_of o e.item 1 rows })) None
+opener_by lay scope o rows e (One k) = cond (locks_for lay scope k e.of.family) (Some (record { key = k; granted = item_granted lay scope (owner_item o) e.item; place = place_of o e.item rows })) None
 opener_by lay scope o rows e (Two p q) = None
 
 -- What the declared item opens, if anything.

@@ -1,5 +1,5 @@
 -- What is told of a rule's left facts: exactly what their owner holds, and what stays closed.
-use Rattle.std.specs.Prelude.{◌≡◌, ℕ, Bool, false, not, List, [], ◌∷◌, ◌++◌, map, length, Some, vec_items, filter}
+use Rattle.std.specs.Prelude.{◌≡◌, ℕ, Bool, false, not, List, map, length, Some, vec_items, filter, flat_map}
 use Rattle.judgments.specs.Access.{Received, Held, Opened}
 use Rattle.judgments.specs.Contexts.{Context}
 use Rattle.layouts.specs.Meanings.{Meaning}
@@ -16,8 +16,7 @@ use Rattle.types.specs.Rows.{at, row_at, term_at}
 
 -- The rows of the facts' arguments.
 abbrev pub argument_rows : List Fact → List ℕ
-argument_rows [] = []
-argument_rows (f ∷ fs) = vec_items f.rows ++ argument_rows fs
+argument_rows fs = flat_map (λ f. vec_items f.rows) fs
 
 -- The terms of the facts' arguments, as the owner reads them; a number that is no row's has none.
 abbrev pub left_terms : Owner → List Row → List Fact → List Term

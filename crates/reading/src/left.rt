@@ -1,139 +1,59 @@
-ghost use Rattle.std.specs.Prelude.{◌≡◌, ◌<◌, ◌≤◌, true, false, length, take, replicate, MatchOption};
-ghost use Rattle.terms.specs.Books.{is_book};
+ghost use Rattle.std.specs.Prelude.{◌≡◌, ◌<◌, false, length, replicate, MatchOption};
 ghost use Rattle.terms.specs.Held.{rows_of};
-ghost use Rattle.reading.specs.Grants.{row_granted, granted_rows};
-ghost use Rattle.reading.specs.Marks.{sight_of, put_facts, Closed, held_of, closed_of, held_rows, closed_rows};
+ghost use Rattle.reading.specs.Marks.{sight_of, put_facts, Closed, held_rows, closed_rows};
 ghost use Rattle.reading.specs.Scopes.{context};
 ghost use Rattle.reading.specs.Told.{left_terms, Told};
 
-use crate::grants::is_granted;
 use crate::lows::lowest_rows;
-use crate::marks::{View, close, is_open, mark_facts};
-use crate::openers::find_openers;
-use crate::places::at;
-use crate::scope::{Entry, MAX_DECLARED};
+use crate::marks::View;
+use crate::reader::Reader;
+use crate::scope::Entry;
 use layouts::layout::Layout;
 use terms::book::Book;
-use terms::row::{Item, Row};
+use terms::book::marking::Marks;
 use theory::data::Fact;
 use theory::owner::Owner;
 
 /// What is told of a rule's left facts, row by row: whether the row's item is held, and whether the
 /// row is received and stays closed.
-#[derive(Clone, Copy)]
+#[derive(Drop)]
 pub struct Reading {
-    pub held: [bool; 512],
-    pub closed: [bool; 512],
+    pub held: Marks,
+    pub closed: Marks,
 }
 
-fn is_row_granted<L: Layout>(layout: &L, scope: &[Entry], owner: Owner, row: Row) -> bool
-    ensures { result ≡ row_granted (L.meaning layout.now) scope.now owner row }
-{
-    match row {
-        Row::Item(item) => is_granted(
-            layout,
-            scope,
-            owner.read(Item::Variable(0)),
-            owner.read(item),
-        ),
-        _ => false,
+impl View<'_> {
+    /// Marks the arguments of the facts, and all that can be read out of them.
+    fn receive(self, left: &[Fact], got: &mut [bool])
+        ensures { Closed (sight_of self.entry) (put_facts (sight_of self.entry).low got.old left.now) got.new }
+    {
+        self.mark_facts(got, left);
+        self.close(got);
     }
-}
 
-/// Which rows are items that are granted to the owner.
-fn granted_rows<L: Layout>(layout: &L, scope: &[Entry], owner: Owner, rows: &[Row]) -> [bool; 512]
-    requires { length rows.now ≤ 512 }
-    ensures { take (length rows.now) result ≡ granted_rows (L.meaning layout.now) scope.now owner rows.now }
-{
-    let mut granted = [false; 512];
-    for (i, row) in rows.iter().enumerate() {
-        granted[i] = is_row_granted(layout, scope, owner, *row);
+    /// Marks what is received of the facts.
+    fn received_rows(self, left: &[Fact]) -> Marks
+        ensures { Closed (sight_of self.entry) (put_facts (sight_of self.entry).low (replicate (length (rows_of self.entry.book.now)) false) left.now) result.items }
+    {
+        let mut got = self.book.mark_rows(|_, _, _| false);
+        self.receive(left, got.as_mut_slice());
+        got
     }
-    granted
-}
 
-/// Marks the arguments of the facts, and all that can be read out of them.
-fn receive(view: View, left: &[Fact], got: &mut [bool])
-    ensures { Closed (sight_of view.entry) (put_facts (sight_of view.entry).low got.old left.now) got.new }
-{
-    mark_facts(view.low, got, left);
-    close(view, got);
-}
-
-/// Marks what is received of the facts.
-fn received_rows(view: View, left: &[Fact]) -> [bool; 512]
-    requires { length view.rows.now ≤ 512 }
-    ensures { Closed (sight_of view.entry) (put_facts (sight_of view.entry).low (replicate (length view.entry.rows.now) false) left.now) (take (length view.entry.rows.now) result) }
-{
-    let mut got = [false; 512];
-    receive(view, left, &mut got[0..view.rows.len()]);
-    got
-}
-
-fn is_held(view: View, got: &[bool], number: usize) -> bool
-    ensures { result ≡ held_of (sight_of view.entry) got.now number }
-{
-    at(got, at(view.low, number, 0), false) || at(view.granted, number, false)
-}
-
-fn is_closed(view: View, got: &[bool], number: usize, row: Row) -> bool
-    ensures { result ≡ closed_of (sight_of view.entry) got.now number row }
-{
-    at(got, at(view.low, number, 0), false) && !is_open(view, got, row)
-}
-
-/// Which rows are items that are held.
-fn held_rows(view: View, got: &[bool]) -> [bool; 512]
-    requires { length view.rows.now ≤ 512 }
-    ensures { take (length view.entry.rows.now) result ≡ held_rows (sight_of view.entry) got.now }
-{
-    let mut held = [false; 512];
-    for i in 0..view.rows.len() {
-        held[i] = is_held(view, got, i + 1);
+    /// Which rows are items that are held.
+    fn held_rows(self, got: &[bool]) -> Marks
+        ensures { result.items ≡ held_rows (sight_of self.entry) got.now }
+    {
+        self.book
+            .mark_rows(|seen, _, _| self.is_held(got, seen.len() + 1))
     }
-    held
-}
 
-/// Which rows are received and stay closed.
-fn closed_rows(view: View, got: &[bool]) -> [bool; 512]
-    requires { length view.rows.now ≤ 512 }
-    ensures { take (length view.entry.rows.now) result ≡ closed_rows (sight_of view.entry) got.now }
-{
-    let mut closed = [false; 512];
-    for (i, row) in view.rows.iter().enumerate() {
-        closed[i] = is_closed(view, got, i + 1, *row);
-    }
-    closed
-}
-
-/// Reads the left facts with all that this takes: lowest rows, grants and openers.
-fn read_rows<L: Layout>(
-    layout: &L,
-    rows: &[Row],
-    scope: &[Entry],
-    owner: Owner,
-    left: &[Fact],
-) -> Reading
-    requires book { is_book rows.now ≡ true }
-    requires few_rows { length rows.now ≤ 512 }
-    requires few_items { length scope.now ≤ 144 }
-    ensures { Told (L.meaning layout.now) (context scope.now) owner rows.now (left_terms owner rows.now left.now) (take (length rows.now) result.held) (take (length rows.now) result.closed) }
-{
-    let n = rows.len();
-    let low = lowest_rows(owner, rows);
-    let granted = granted_rows(layout, scope, owner, rows);
-    let openers = find_openers(layout, scope, owner, rows);
-    let view = View {
-        rows,
-        low: &low[0..n],
-        granted: &granted[0..n],
-        openers: &openers[0..scope.len()],
-        owner,
-    };
-    let got = received_rows(view, left);
-    Reading {
-        held: held_rows(view, &got[0..n]),
-        closed: closed_rows(view, &got[0..n]),
+    /// Which rows are received and stay closed.
+    fn closed_rows(self, got: &[bool]) -> Marks
+        ensures { result.items ≡ closed_rows (sight_of self.entry) got.now }
+    {
+        self.book
+            .mark_rows(|seen, _, row| self.is_closed(got, seen.len() + 1, row))
     }
 }
 
@@ -146,10 +66,26 @@ pub fn read_left<L: Layout>(
     owner: Owner,
     left: &[Fact],
 ) -> Option<Reading>
-    ensures { MatchOption result (144 < length scope.now) (λ x. Told (L.meaning layout.now) (context scope.now) owner (rows_of book.now) (left_terms owner (rows_of book.now) left.now) (take (length (rows_of book.now)) x.held) (take (length (rows_of book.now)) x.closed)) }
+    ensures { MatchOption result (144 < length scope.now) (λ x. Told (L.meaning layout.now) (context scope.now) owner (rows_of book.now) (left_terms owner (rows_of book.now) left.now) x.held.items x.closed.items) }
 {
-    if scope.len() > MAX_DECLARED {
-        return None;
-    }
-    Some(read_rows(layout, book.rows(), scope, owner, left))
+    let reader = Reader {
+        layout,
+        scope,
+        owner,
+    };
+    let openers = reader.find_openers(book)?;
+    let low = lowest_rows(owner, book);
+    let granted = reader.granted_rows(book);
+    let view = View {
+        book,
+        low: low.as_slice(),
+        granted: granted.as_slice(),
+        openers: openers.as_slice(),
+        owner,
+    };
+    let got = view.received_rows(left);
+    Some(Reading {
+        held: view.held_rows(got.as_slice()),
+        closed: view.closed_rows(got.as_slice()),
+    })
 }

@@ -8,4 +8,5 @@ mod lows;
 mod marks;
 mod openers;
 pub mod places;
+mod reader;
 pub mod scope;

@@ -1,52 +1,55 @@
-ghost use Rattle.std.specs.Prelude.{◌≡◌, ◌≤◌, length, take};
+ghost use Rattle.std.specs.Prelude.{◌≡◌, ◌≤◌, length};
 ghost use Rattle.terms.specs.Adding.{number_in};
+ghost use Rattle.terms.specs.Held.{rows_of};
 ghost use Rattle.reading.specs.Lows.{reduced, lows};
 
-use crate::places::at;
-use earliest::earliest_place;
+use arrayvec::ArrayVec;
+use terms::book::{Book, MAX_ROWS};
+use terms::places::at;
 use terms::row::Row;
 use theory::owner::Owner;
+
+/// For each row the number of a row.
+pub(crate) type Numbers = ArrayVec<usize, MAX_ROWS>;
 
 /// The row as it is compared: items read, and parts replaced by the lowest rows of the same terms.
 fn reduce(owner: Owner, low: &[usize], row: Row) -> Row
     ensures { result ≡ reduced owner low.now row }
 {
+    let lowest = |number: usize| at(low, number, 0);
     match row {
         Row::Item(item) => Row::Item(owner.read(item)),
-        Row::Pair(a, b) => Row::Pair(at(low, a, 0), at(low, b, 0)),
+        Row::Pair(a, b) => Row::Pair(lowest(a), lowest(b)),
         Row::Seal { content, key } => Row::Seal {
-            content: at(low, content, 0),
-            key: at(low, key, 0),
+            content: lowest(content),
+            key: lowest(key),
         },
         Row::Lock { content, key } => Row::Lock {
-            content: at(low, content, 0),
-            key: at(low, key, 0),
+            content: lowest(content),
+            key: lowest(key),
         },
     }
 }
 
 /// The number of the first of the rows that equals this one, or else the next.
 fn number_in(rows: &[Row], row: Row) -> usize
-    requires { length rows.now ≤ 512 }
     ensures { result ≡ number_in rows.now row }
 {
-    match earliest_place(rows, &row) {
-        Some(place) => place + 1,
-        None => rows.len() + 1,
-    }
+    row.place_in(rows).unwrap_or(rows.len()) + 1
 }
 
 /// For each row the lowest row that the owner reads as the same term. Only in an anchored role, where
 /// variable 0 and the anchor's name are one item, is that ever another row.
-pub(crate) fn lowest_rows(owner: Owner, rows: &[Row]) -> [usize; 512]
-    requires { length rows.now ≤ 512 }
-    ensures { take (length rows.now) result ≡ lows owner rows.now }
+pub(crate) fn lowest_rows(owner: Owner, book: &Book) -> Numbers
+    ensures { result.items ≡ lows owner (rows_of book.now) }
 {
-    let mut low = [0; 512];
-    let mut seen = [Row::Pair(0, 0); 512];
+    let rows = book.rows();
+    let mut low = Numbers::new();
+    // `Row` has no default, so an `ArrayVec` of them would hold `Option<Row>`, each of them `Some`.
+    let mut seen = [Row::Pair(0, 0); MAX_ROWS];
     for (i, row) in rows.iter().enumerate() {
-        let sought = reduce(owner, &low[0..i], *row);
-        low[i] = number_in(&seen[0..i], sought);
+        let sought = reduce(owner, low.as_slice(), *row);
+        low.push(number_in(&seen[0..i], sought));
         seen[i] = sought;
     }
     low

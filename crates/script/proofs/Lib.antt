@@ -1,7 +1,5 @@
-pub mod Cutting
 pub mod Reading
 pub mod Matching
 pub mod Listing
 pub mod Splitting
 pub mod Silence
-pub mod Texts

@@ -1,14 +1,11 @@
 -- Words that a slice pattern or a text pattern took apart.
-use Rattle.std.proofs.Common.{◌≡◌, ℕ, ◌-◌, ◌<◌, ◌≤◌, false, List, [], ◌∷◌, map, length, get_or, take, drop, Some, None, codes, Option, sym, refl, ap, ◌∙◌, ⊎_elim, arith, Bor}
+use Rattle.std.proofs.Common.{◌≡◌, ℕ, ◌<◌, ◌≤◌, Bool, true, false, cond, List, [], ◌∷◌, map, length, get_or, None, codes, Option, refl, ⊎_elim, arith, Bor}
 use Rattle.std.specs.Str.{bytes_eq}
 use Rattle.std.proofs.lemmas.Slice.Eq.{bytes_eq-Decides}
-use Rattle.std.proofs.lemmas.List.{take_all}
 use Rattle.std.proofs.lemmas.Bool.{cases_Bool}
-use Rattle.theory.specs.declared.data.Symbol.{Symbol}
-use Rattle.script.specs.Types.{both}
-use Rattle.script.specs.Facts.{SaidFact, symbol_of, fact_of}
-use Rattle.script.specs.Lists.{Word, row_number_of, all_of}
-use Rattle.script.specs.Commands.{compound_by, of_both, row_of, declared_of, more_of, plain_of, command_of}
+use Rattle.script.specs.Said.{Said}
+use Rattle.script.specs.Lists.{Word}
+use Rattle.script.specs.Commands.{plain_of, command_of}
 
 -- two words that differ
 pub unlike : (w k : Word) → (w ≡ k → ⊥) → bytes_eq w k ≡ false
@@ -18,72 +15,62 @@ unlike w k h = ⊎_elim (λ t. absurd (h ((bytes_eq-Decides w k).0 t))) (λ f. f
 abbrev pub told : List (Bor Word) → List Word
 told ws = map (λ w. w.now) ws
 
-pub two_words : (ws : List (Bor Word)) (d : Bor Word) → length ws ≡ 2 → told ws ≡ (get_or ws 0 d).now ∷ (get_or ws 1 d).now ∷ []
-two_words [] d e = absurd (omega arith)
-two_words (a ∷ []) d e = absurd (omega arith)
-two_words (a ∷ b ∷ []) d e = refl
-two_words (a ∷ b ∷ c ∷ ws) d e = absurd (omega arith)
+-- the word at a place, as a pattern of a slice reads it
+abbrev pub word_at : List (Bor Word) → ℕ → Word
+word_at ws i = (get_or ws i record { ref_ptr = (0, 0); now = [] }).now
 
-pub three_words : (ws : List (Bor Word)) (d : Bor Word) → length ws ≡ 3 → told ws ≡ (get_or ws 0 d).now ∷ (get_or ws 1 d).now ∷ (get_or ws 2 d).now ∷ []
-three_words [] d e = absurd (omega arith)
-three_words (a ∷ []) d e = absurd (omega arith)
-three_words (a ∷ b ∷ []) d e = absurd (omega arith)
-three_words (a ∷ b ∷ c ∷ []) d e = refl
-three_words (a ∷ b ∷ c ∷ x ∷ ws) d e = absurd (omega arith)
+-- no words, or a first word that heads no list and states no fact
+pub no_words : (ws : List (Bor Word)) → length ws < 1 → plain_of (told ws) ≡ command_of (told ws)
+no_words [] h = refl
+no_words (a ∷ ws) h = absurd (omega arith)
 
-pub no_row : (ws : List (Bor Word)) → (length ws ≡ 2 → ⊥) → (length ws ≡ 3 → ⊥) → None ≡ row_of (told ws)
-no_row [] p q = refl
-no_row (a ∷ []) p q = refl
-no_row (a ∷ b ∷ []) p q = absurd (p refl)
-no_row (a ∷ b ∷ c ∷ []) p q = absurd (q refl)
-no_row (a ∷ b ∷ c ∷ x ∷ ws) p q = refl
+pub other_words : (ws : List (Bor Word)) → 1 ≤ length ws → (word_at ws 0 ≡ codes "load" → ⊥) → (word_at ws 0 ≡ codes "withhold" → ⊥) → (word_at ws 0 ≡ codes "memory" → ⊥) → (word_at ws 0 ≡ codes "local" → ⊥) → (word_at ws 0 ≡ codes "left" → ⊥) → (word_at ws 0 ≡ codes "right" → ⊥) → (word_at ws 0 ≡ codes "fact" → ⊥) → plain_of (told ws) ≡ command_of (told ws)
+other_words [] some load withhold memory local left right fact = absurd (omega arith)
+other_words (a ∷ ws) some load withhold memory local left right fact =
+    rw (unlike a.now _ load, unlike a.now _ withhold, unlike a.now _ memory, unlike a.now _ local, unlike a.now _ left, unlike a.now _ right, unlike a.now _ fact) refl
 
--- the first word, and the rest as a slice pattern gives it
-pub head_rest : (ws : List (Bor Word)) (d : Bor Word) → 1 ≤ length ws → told ws ≡ (get_or ws 0 d).now ∷ told (take (length ws - 1) (drop 1 ws))
-head_rest [] d h = absurd (omega arith)
-head_rest (a ∷ ws) d h = ap (λ l. a.now ∷ told l) (sym (take_all (length (a ∷ ws) - 1) ws (omega arith)))
+-- words that are no command, by their count
+pub no_plain : (ws : List (Bor Word)) → length ws < 1 → None ≡ plain_of (told ws)
+no_plain [] h = refl
+no_plain (a ∷ ws) h = absurd (omega arith)
 
-pub no_command : (ws : List (Bor Word)) → length ws < 1 → None ≡ command_of (told ws)
-no_command [] h = refl
-no_command (a ∷ ws) h = absurd (omega arith)
+pub not_alone : (ws : List (Bor Word)) → 1 ≤ length ws → length ws < 2 → (word_at ws 0 ≡ codes "new" → ⊥) → (word_at ws 0 ≡ codes "roll" → ⊥) → (word_at ws 0 ≡ codes "withholding" → ⊥) → (word_at ws 0 ≡ codes "check" → ⊥) → (word_at ws 0 ≡ codes "rule" → ⊥) → None ≡ plain_of (told ws)
+not_alone [] some few new roll withholding check rule = absurd (omega arith)
+not_alone (a ∷ []) some few new roll withholding check rule =
+    rw (unlike a.now _ new, unlike a.now _ roll, unlike a.now _ withholding, unlike a.now _ check, unlike a.now _ rule) refl
+not_alone (a ∷ b ∷ ws) some few new roll withholding check rule = absurd (omega arith)
 
--- a kind that is none of the three
-pub no_compound : (kind : Word) (x y : Option ℕ) → (kind ≡ codes "pair" → ⊥) → (kind ≡ codes "seal" → ⊥) → (kind ≡ codes "lock" → ⊥) → None ≡ of_both (compound_by kind) x y
-no_compound kind None y p s l = refl
-no_compound kind (Some a) None p s l = refl
-no_compound kind (Some a) (Some b) p s l = rw (unlike kind _ p, unlike kind _ s, unlike kind _ l) refl
+pub not_one : (ws : List (Bor Word)) → 2 ≤ length ws → length ws < 3 → (word_at ws 0 ≡ codes "layout" → ⊥) → (word_at ws 0 ≡ codes "counter" → ⊥) → (word_at ws 0 ≡ codes "role" → ⊥) → (word_at ws 0 ≡ codes "forall" → ⊥) → (word_at ws 0 ≡ codes "make" → ⊥) → None ≡ plain_of (told ws)
+not_one [] some few layout counter role forall make = absurd (omega arith)
+not_one (a ∷ []) some few layout counter role forall make = absurd (omega arith)
+not_one (a ∷ b ∷ []) some few layout counter role forall make =
+    rw (unlike a.now _ layout, unlike a.now _ counter, unlike a.now _ role, unlike a.now _ forall, unlike a.now _ make) refl
+not_one (a ∷ b ∷ c ∷ ws) some few layout counter role forall make = absurd (omega arith)
 
--- a command by the count of the words that follow
-pub one_word : (ws : List (Bor Word)) (d : Bor Word) → length ws ≡ 1 → told ws ≡ (get_or ws 0 d).now ∷ []
-one_word [] d e = absurd (omega arith)
-one_word (a ∷ []) d e = refl
-one_word (a ∷ b ∷ ws) d e = absurd (omega arith)
+pub not_two : (ws : List (Bor Word)) → 3 ≤ length ws → length ws < 4 → (word_at ws 0 ≡ codes "row" → ⊥) → (word_at ws 0 ≡ codes "name" → ⊥) → None ≡ plain_of (told ws)
+not_two [] some few row name = absurd (omega arith)
+not_two (a ∷ []) some few row name = absurd (omega arith)
+not_two (a ∷ b ∷ []) some few row name = absurd (omega arith)
+not_two (a ∷ b ∷ c ∷ []) some few row name = rw (unlike a.now _ row, unlike a.now _ name) refl
+not_two (a ∷ b ∷ c ∷ x ∷ ws) some few row name = absurd (omega arith)
 
-pub no_words : (ws : List (Bor Word)) → length ws ≡ 0 → told ws ≡ []
-no_words [] e = refl
-no_words (a ∷ ws) e = absurd (omega arith)
+neither : (t u : Bool) → ◌≡◌ {A = Option Said} None (cond t None (cond u None None))
+neither true u = refl
+neither false true = refl
+neither false false = refl
 
-pub more_words : (head : Word) (ws : List (Bor Word)) → 2 ≤ length ws → plain_of head (told ws) ≡ more_of head (told ws)
-more_words head [] h = absurd (omega arith)
-more_words head (a ∷ []) h = absurd (omega arith)
-more_words head (a ∷ b ∷ ws) h = refl
+pub not_three : (ws : List (Bor Word)) → 4 ≤ length ws → length ws < 5 → (word_at ws 0 ≡ codes "row" → ⊥) → None ≡ plain_of (told ws)
+not_three [] some few row = absurd (omega arith)
+not_three (a ∷ []) some few row = absurd (omega arith)
+not_three (a ∷ b ∷ []) some few row = absurd (omega arith)
+not_three (a ∷ b ∷ c ∷ []) some few row = absurd (omega arith)
+not_three (a ∷ b ∷ c ∷ x ∷ []) some few row = rw (unlike a.now _ row) (neither false (bytes_eq a.now (codes "name")))
+not_three (a ∷ b ∷ c ∷ x ∷ y ∷ ws) some few row = absurd (omega arith)
 
-pub no_name : (ws : List (Bor Word)) → (length ws ≡ 2 → ⊥) → None ≡ declared_of (told ws)
-no_name [] p = refl
-no_name (a ∷ []) p = refl
-no_name (a ∷ b ∷ []) p = absurd (p refl)
-no_name (a ∷ b ∷ c ∷ ws) p = refl
-
--- a fact by its first word and the rest
-pub no_fact : (ws : List (Bor Word)) → length ws < 1 → None ≡ fact_of (told ws)
-no_fact [] h = refl
-no_fact (a ∷ ws) h = absurd (omega arith)
-
-abbrev pub fact : Symbol → List ℕ → SaidFact
-fact s rows = record { symbol = s; rows = rows }
-
-pub fact_found : (ws : List (Bor Word)) (d : Bor Word) → 1 ≤ length ws → (s : Option Symbol) (rows : Option (List ℕ)) → s ≡ symbol_of (get_or ws 0 d).now → rows ≡ all_of row_number_of (told (take (length ws - 1) (drop 1 ws))) → both fact s rows ≡ fact_of (told ws)
-fact_found ws d h s rows e f = ap (λ x. both fact x rows) e ∙ ap (both fact (symbol_of (get_or ws 0 d).now)) f ∙ sym (ap fact_of (head_rest ws d h))
-
-pub no_symbol : (ws : List (Bor Word)) (d : Bor Word) → 1 ≤ length ws → None ≡ symbol_of (get_or ws 0 d).now → None ≡ fact_of (told ws)
-no_symbol ws d h e = ap (λ x. both fact x (all_of row_number_of (told (take (length ws - 1) (drop 1 ws))))) e ∙ sym (ap fact_of (head_rest ws d h))
+pub too_many : (ws : List (Bor Word)) → 5 ≤ length ws → None ≡ plain_of (told ws)
+too_many [] some = absurd (omega arith)
+too_many (a ∷ []) some = absurd (omega arith)
+too_many (a ∷ b ∷ []) some = absurd (omega arith)
+too_many (a ∷ b ∷ c ∷ []) some = absurd (omega arith)
+too_many (a ∷ b ∷ c ∷ x ∷ []) some = absurd (omega arith)
+too_many (a ∷ b ∷ c ∷ x ∷ y ∷ ws) some = neither (bytes_eq a.now (codes "row")) (bytes_eq a.now (codes "name"))

@@ -1,6 +1,6 @@
 -- The commands of a script, read off the words of a line.
 use Rattle.std.specs.Prelude.{ℕ, cond, List, [], ◌∷◌, Some, None, codes, Option}
-use Rattle.std.specs.Option.{option_map}
+use Rattle.std.specs.Option.{option_map, option_and_then, option_zip}
 use Rattle.std.specs.Str.{bytes_eq}
 use Rattle.layouts.specs.declared.any.AnyLayout.{AnyLayout}
 use Rattle.layouts.specs.declared.any.AnyLayout.TheVariants as any
@@ -8,9 +8,9 @@ use Rattle.terms.specs.declared.row.Item.TheVariants.{Name, Variable}
 use Rattle.terms.specs.declared.row.Row.{Row}
 use Rattle.terms.specs.declared.row.Row.TheVariants as row
 use Rattle.theory.specs.declared.data.Declared.{Declared}
-use Rattle.script.specs.Types.{both, type_of, argument_of}
+use Rattle.script.specs.Types.{type_of, argument_of}
 use Rattle.script.specs.Facts.{fact_of}
-use Rattle.script.specs.Lists.{Word, name_of, all_of}
+use Rattle.script.specs.Lists.{Word, name_of, row_number_of, both, all_of}
 use Rattle.script.specs.Numbers.{number_up_to}
 use Rattle.script.specs.Said as said
 use Rattle.script.specs.Said.{Said}
@@ -28,14 +28,9 @@ compound_by kind a b =
     (cond (bytes_eq kind (codes "seal")) (Some (row.Seal a b))
     (cond (bytes_eq kind (codes "lock")) (Some (row.Lock a b)) None))
 
-abbrev pub of_both : {A : Type 0} → (ℕ → ℕ → Option A) → Option ℕ → Option ℕ → Option A
-of_both f None n = None
-of_both f (Some a) None = None
-of_both f (Some a) (Some b) = f a b
-
 -- `pair A B`, `seal A B` and `lock A B`: the content first, then the key; the numbers have 64 bits.
 abbrev pub compound_of : Word → Word → Word → Option Row
-compound_of kind first second = of_both (compound_by kind) (number_up_to 18446744073709551615 first) (number_up_to 18446744073709551615 second)
+compound_of kind first second = option_and_then (λ p. compound_by kind p.0 p.1) (option_zip (row_number_of first) (row_number_of second))
 
 -- What follows `row`.
 abbrev pub row_of : List Word → Option Row
@@ -93,25 +88,22 @@ more_of head rest =
     (cond (bytes_eq head (codes "name")) (option_map said.name (declared_of rest)) None)
 
 -- A command that holds no list.
-abbrev pub plain_of : Word → List Word → Option Said
-plain_of head [] = alone_of head
-plain_of head (w ∷ []) = one_of head w
-plain_of head (w ∷ v ∷ ws) = more_of head (w ∷ v ∷ ws)
+abbrev pub plain_of : List Word → Option Said
+plain_of [] = None
+plain_of (head ∷ []) = alone_of head
+plain_of (head ∷ w ∷ []) = one_of head w
+plain_of (head ∷ w ∷ v ∷ ws) = more_of head (w ∷ v ∷ ws)
 
--- A command that states a fact, or one that holds no list.
-abbrev pub stated_of : Word → List Word → Option Said
-stated_of head rest =
-    cond (bytes_eq head (codes "left")) (option_map said.left (fact_of rest))
-    (cond (bytes_eq head (codes "right")) (option_map said.right (fact_of rest))
-    (cond (bytes_eq head (codes "fact")) (option_map said.initial (fact_of rest)) (plain_of head rest)))
-
--- The command that begins with the word.
+-- The command that begins with the word: it holds a list or states a fact, or holds no list.
 abbrev pub headed_of : Word → List Word → Option Said
 headed_of head rest =
     cond (bytes_eq head (codes "load")) (option_map said.load (all_of name_of rest))
     (cond (bytes_eq head (codes "withhold")) (option_map said.withhold (all_of name_of rest))
     (cond (bytes_eq head (codes "memory")) (option_map said.memory (all_of argument_of rest))
-    (cond (bytes_eq head (codes "local")) (option_map said.local (all_of argument_of rest)) (stated_of head rest))))
+    (cond (bytes_eq head (codes "local")) (option_map said.local (all_of argument_of rest))
+    (cond (bytes_eq head (codes "left")) (option_map said.left (fact_of rest))
+    (cond (bytes_eq head (codes "right")) (option_map said.right (fact_of rest))
+    (cond (bytes_eq head (codes "fact")) (option_map said.initial (fact_of rest)) (plain_of (head ∷ rest))))))))
 
 abbrev pub command_of : List Word → Option Said
 command_of [] = None

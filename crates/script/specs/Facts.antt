@@ -5,8 +5,8 @@ use Rattle.std.specs.Str.{bytes_eq}
 use Rattle.theory.specs.declared.data.Fact.{Fact}
 use Rattle.theory.specs.declared.data.Symbol.{Symbol}
 use Rattle.theory.specs.declared.data.Symbol.TheVariants as symbol
-use Rattle.script.specs.Lists.{Word, row_number_of, all_of}
-use Rattle.script.specs.Types.{after, both}
+use Rattle.script.specs.Lists.{Word, row_number_of, both, all_of}
+use Rattle.script.specs.Types.{after}
 
 -- A fact, apart from the memory that holds its rows.
 pub record SaidFact : Type 0 where

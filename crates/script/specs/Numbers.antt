@@ -1,14 +1,11 @@
 -- The numbers of a script: decimal digits and nothing else.
-use Rattle.std.specs.Prelude.{ℕ, ◌+◌, ◌-◌, ◌*◌, Bool, false, cond, ◌&&◌, List, [], ◌∷◌, Some, None, Option, nat_le}
+use Rattle.std.specs.Prelude.{ℕ, Bool, false, cond, ◌&&◌, List, [], ◌∷◌, Some, None, Option, nat_le}
 use Rattle.std.specs.Str.{all_ascii_digits}
+use Rattle.std.specs.Str.Parse.{digits_value}
 
--- The number that the digits write after those of n; the digit 0 is the byte 48.
-abbrev pub value_after : ℕ → List ℕ → ℕ
-value_after n [] = n
-value_after n (d ∷ ds) = value_after (10 * n + (d - 48)) ds
-
+-- The number that the digits write.
 abbrev pub value : List ℕ → ℕ
-value word = value_after 0 word
+value word = digits_value 10 word
 
 -- One digit or more, and nothing else.
 abbrev pub is_number : List ℕ → Bool

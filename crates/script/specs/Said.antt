@@ -11,7 +11,7 @@ use Rattle.script.specs.declared.command.Command.TheVariants as command
 use Rattle.script.specs.declared.command.Part.{Part}
 use Rattle.script.specs.declared.command.Part.TheVariants as in_role
 use Rattle.script.specs.declared.command.RulePart.{RulePart}
-use Rattle.script.specs.declared.command.RulePart.TheVariants as in_rule
+use Rattle.script.specs.declared.command.RulePart.TheVariants as in_last_rule
 use Rattle.script.specs.declared.command.Line.{Line}
 use Rattle.script.specs.declared.command.Line.TheVariants as line
 
@@ -21,10 +21,10 @@ pub data SaidRulePart : Type 0 where
   left_fact right_fact : SaidFact → SaidRulePart
 
 abbrev pub said_rule_part : RulePart → SaidRulePart
-said_rule_part (in_rule.Universal t) = universal t
-said_rule_part (in_rule.Made t) = made t
-said_rule_part (in_rule.Left f) = left_fact (said_fact f)
-said_rule_part (in_rule.Right f) = right_fact (said_fact f)
+said_rule_part (in_last_rule.Universal t) = universal t
+said_rule_part (in_last_rule.Made t) = made t
+said_rule_part (in_last_rule.Left f) = left_fact (said_fact f)
+said_rule_part (in_last_rule.Right f) = right_fact (said_fact f)
 
 -- What a line adds to the last role.
 pub data SaidPart : Type 0 where
@@ -68,6 +68,10 @@ said (command.Role a) = role a
 said (command.Part p) = part (said_part p)
 said (command.Fact f) = initial (said_fact f)
 said command.Check = check
+
+-- A command that adds to the last rule.
+abbrev pub in_rule : RulePart → Command
+in_rule p = command.Part (in_role.OfRule p)
 
 abbrev pub local : List Argument → Said
 local arguments = part (predicate arguments)

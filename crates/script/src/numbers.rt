@@ -5,11 +5,9 @@ ghost use Rattle.script.specs.Numbers.{number_up_to};
 pub fn read_number(word: &str, most: usize) -> Option<usize>
     ensures { result ≡ number_up_to most word.now }
 {
+    // `parse` takes a plus sign, too.
     if word.starts_with('+') {
         return None;
     }
-    match word.parse::<usize>() {
-        Ok(number) => if number <= most { Some(number) } else { None },
-        Err(_) => None,
-    }
+    word.parse().ok().filter(|number| *number <= most)
 }

@@ -7,11 +7,7 @@ use std::alloc::{AllocError, Global};
 pub fn split_words<'a>(heap: Global, line: &'a str) -> Result<Vec<&'a str>, AllocError>
     ensures { IfOk result (λ v. map (λ w. w.now) v.items ≡ words line.now) }
 {
-    let mut found = Vec::new(heap);
-    for piece in line.split(' ') {
-        if !piece.is_empty() {
-            found.push(piece)?;
-        }
-    }
-    Ok(found)
+    line.split(' ')
+        .filter(|piece| !piece.is_empty())
+        .collect(heap)
 }

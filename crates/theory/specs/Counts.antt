@@ -1,5 +1,5 @@
 -- The limits of a theory's tables, in the order in which they are looked at.
-use Rattle.std.specs.Prelude.{ℕ, ◌+◌, List, [], ◌∷◌, length, vec_items, vec_len, nat_le}
+use Rattle.std.specs.Prelude.{ℕ, ◌+◌, List, [], length, vec_items, vec_len, nat_le, sum_by}
 use Rattle.refusals.specs.Walks.{Answer, pass, demand, and_then, walk}
 use Rattle.theory.specs.declared.data.Fact.{Fact}
 use Rattle.theory.specs.declared.data.Predicate.{Predicate}
@@ -7,11 +7,11 @@ use Rattle.theory.specs.declared.data.Role.{Role}
 use Rattle.theory.specs.declared.data.Rule.{Rule}
 use Rattle.theory.specs.declared.data.Theory.{Theory}
 use Rattle.theory.specs.declared.faults.Flaw.TheVariants.{TooMany}
-use Rattle.theory.specs.declared.faults.TableFault.{TableFault}
+use Rattle.theory.specs.Faults.{TableFault}
 
 -- A count is at most its limit; the spot of the fault is the limit plus 1.
 abbrev pub count_check : ℕ → ℕ → ℕ → ℕ → Answer TableFault
-count_check count limit role rule = demand (nat_le count limit) (record { role = role; rule = rule; spot = limit + 1; flaw = TooMany }) pass
+count_check count limit role rule = demand (nat_le count limit) (record { role = role; rule = rule; spot = limit + 1; why = TooMany }) pass
 
 abbrev pub same : TableFault → TableFault
 same f = f
@@ -55,8 +55,7 @@ roles_counts Rs = walk placed_role_counts here [] Rs
 
 -- How many rules there are in all.
 abbrev pub rules_in_all : List Role → ℕ
-rules_in_all [] = 0
-rules_in_all (R ∷ Rs) = vec_len R.rules + rules_in_all Rs
+rules_in_all Rs = sum_by (λ R. vec_len R.rules) Rs
 
 -- At most 128 names, 16 memory predicates, 16 roles, 64 rules in all, and 128 initial facts.
 abbrev pub counts_check : Theory → List Fact → Answer TableFault

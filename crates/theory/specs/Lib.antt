@@ -1,5 +1,6 @@
 pub mod Data
 pub mod Faults
+pub mod Numbering
 pub mod Counts
 pub mod Missing
 pub mod Owners

@@ -1,5 +1,7 @@
 -- What a theory's tables name has to be there, in the order in which it is looked for.
-use Rattle.std.specs.Prelude.{ℕ, ◌+◌, Bool, true, ◌&&◌, List, [], ◌∷◌, length, Some, None, vec_items, vec_len, Option}
+use Rattle.std.specs.Prelude.{ℕ, ◌+◌, Bool, true, ◌&&◌, List, [], length, Some, None, vec_items, vec_len, Option}
+use Rattle.std.specs.List.{list_all, enumerate_from}
+pub use Rattle.refusals.specs.Faults.{at_spot}
 use Rattle.refusals.specs.Walks.{Answer, pass, demand, and_then, walk}
 use Rattle.terms.specs.Held.{rows_of}
 use Rattle.terms.specs.Rows.{is_row}
@@ -18,7 +20,7 @@ use Rattle.theory.specs.declared.data.Symbol.TheVariants as symbol
 use Rattle.theory.specs.declared.data.Theory.{Theory}
 use Rattle.theory.specs.declared.faults.Flaw.{Flaw}
 use Rattle.theory.specs.declared.faults.Flaw.TheVariants.{Missing}
-use Rattle.theory.specs.declared.faults.TableFault.{TableFault}
+use Rattle.theory.specs.Faults.{TableFault}
 use Rattle.theory.specs.declared.missing.Sizes.{Sizes}
 
 -- Places and numbers count from 1, as those of rows do.
@@ -33,8 +35,7 @@ slots_there earlier (params.Two p q) = slot_there earlier p && slot_there earlie
 
 -- Each argument type names earlier places only; so many arguments come before the first.
 abbrev pub arguments_there : ℕ → List Argument → Bool
-arguments_there earlier [] = true
-arguments_there earlier (A ∷ As) = slots_there earlier A.params && arguments_there (earlier + 1) As
+arguments_there earlier As = list_all (λ p. slots_there p.0 p.1.params) (enumerate_from earlier As)
 
 -- A role's own predicate is not looked for where no role is told.
 abbrev pub own_there : Option ℕ → ℕ → Bool
@@ -47,15 +48,10 @@ symbol_there s (symbol.Memory m) = is_row s.memory m
 symbol_there s (symbol.Role p) = own_there s.own p
 
 abbrev pub rows_there : ℕ → List ℕ → Bool
-rows_there n [] = true
-rows_there n (k ∷ ks) = is_row n k && rows_there n ks
+rows_there n ks = list_all (is_row n) ks
 
 abbrev pub fact_there : Sizes → Fact → Bool
 fact_there s f = symbol_there s f.symbol && rows_there s.rows (vec_items f.rows)
-
--- The spot counts on after so many.
-abbrev pub at_spot : ℕ → ℕ → ℕ → ℕ → Flaw → TableFault
-at_spot role rule base n f = record { role = role; rule = rule; spot = base + n; flaw = f }
 
 abbrev pub predicate_missing : List Predicate → Predicate → Answer Flaw
 predicate_missing seen P = demand (arguments_there 0 (vec_items P.arguments)) Missing pass

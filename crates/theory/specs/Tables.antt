@@ -5,7 +5,7 @@ use Rattle.theory.specs.Counts.{same, counts_check}
 use Rattle.theory.specs.Missing.{missing_check}
 use Rattle.theory.specs.declared.data.Fact.{Fact}
 use Rattle.theory.specs.declared.data.Theory.{Theory}
-use Rattle.theory.specs.declared.faults.TableFault.{TableFault}
+use Rattle.theory.specs.Faults.{TableFault}
 
 abbrev pub tables_check : Theory → List Fact → Answer TableFault
 tables_check T fs = and_then same (counts_check T fs) (missing_check T fs)

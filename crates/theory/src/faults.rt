@@ -1,7 +1,8 @@
-ghost use Rattle.std.specs.Prelude.{◌≡◌};
-ghost use Rattle.theory.specs.Faults.{refusal_of, reason_of};
+ghost use Rattle.std.specs.Prelude.{Some};
+ghost use Rattle.theory.specs.Faults.{layer_number, number_of, row_of, reason_of};
 
-use refusals::Refusal;
+use refusals::fault::{Fault, Reason};
+use std::fmt;
 
 /// What is wrong with a table.
 #[derive(Clone, Copy, PartialEq, Eq)]
@@ -12,41 +13,41 @@ pub enum Flaw {
     Missing,
 }
 
-/// What is wrong, and where: the role and the rule, counted from 1, and the spot in it.
-#[derive(Clone, Copy, PartialEq, Eq)]
-pub struct TableFault {
-    pub role: usize,
-    pub rule: usize,
-    pub spot: usize,
-    pub flaw: Flaw,
-}
+/// What is wrong with a table, and where.
+pub type TableFault = Fault<Flaw>;
 
-impl TableFault {
-    /// The six numbers of the fault.
-    pub fn refusal(self) -> Refusal
-        ensures { result ≡ refusal_of self }
-    {
-        let number = match self.flaw {
+/// The lines of layer 2. None tells a row.
+impl Reason for Flaw {
+    ghost layer_number = { layer_number };
+
+    ghost number_of = { number_of };
+
+    ghost row_of = { row_of };
+
+    fn layer() -> u8 {
+        2
+    }
+
+    fn number(self) -> u8 {
+        match self {
             Flaw::TooMany => 8,
             Flaw::Missing => 9,
-        };
-        Refusal {
-            number,
-            layer: 2,
-            role: self.role,
-            rule: self.rule,
-            spot: self.spot,
-            row: 0,
         }
     }
 
-    /// The reason in words.
-    pub fn reason(self) -> &'static str
-        ensures { result.now ≡ reason_of self.flaw }
-    {
-        match self.flaw {
+    fn row(self) -> usize {
+        0
+    }
+}
+
+/// The reason in words.
+impl fmt::Display for Flaw {
+    ghost output = { λ w. Some (reason_of w) };
+
+    fn fmt<O: fmt::Write>(&self, f: &mut fmt::Formatter<O>) -> fmt::Result {
+        f.write_str(match self {
             Flaw::TooMany => "a count is over its limit",
             Flaw::Missing => "a row, a predicate or an earlier argument place is missing",
-        }
+        })
     }
 }

@@ -5,6 +5,7 @@ mod counts;
 pub mod data;
 pub mod faults;
 mod missing;
+mod numbered;
 pub mod owner;
 pub mod tables;
 
@@ -13,6 +14,7 @@ mod tests {
     use crate::data::{Fact, Symbol, Theory};
     use crate::faults::{Flaw, TableFault};
     use crate::tables::check_tables;
+    use refusals::Refusal;
     use std::test::Fail;
     use terms::book::Book;
     use terms::row::{Item, Row};
@@ -45,9 +47,18 @@ mod tests {
             role: 0,
             rule: 0,
             spot: 129,
-            flaw: Flaw::TooMany,
+            why: Flaw::TooMany,
         };
         assert!(rt; check_tables(&theory, facts.as_slice()) == Err(full));
+        let told = Refusal {
+            number: 8,
+            layer: 2,
+            role: 0,
+            rule: 0,
+            spot: 129,
+            row: 0,
+        };
+        assert!(rt; Refusal::from(full) == told);
         Ok(())
     }
 }

@@ -1,25 +1,12 @@
-ghost use Rattle.std.specs.Prelude.{◌≡◌, ◌+◌, ◌^◌, ◌<◌, length};
-ghost use Rattle.terms.specs.Rows.{is_row};
-ghost use Rattle.theory.specs.Missing.{slot_there, slots_there, arguments_there, symbol_there, rows_there, fact_there, predicates_missing, facts_missing, rule_missing, rules_missing, role_missing, roles_missing, missing_check};
+ghost use Rattle.std.specs.Prelude.{◌≡◌, ◌+◌, ◌^◌, ◌<◌, length, vec_items};
+ghost use Rattle.theory.specs.Missing.{slot_there, slots_there, arguments_there, symbol_there, rows_there, fact_there, predicates_missing, facts_missing, rule_missing, rules_missing, with_own, role_missing, roles_missing, sizes_of, missing_check};
 
-use layouts::layout::Params;
 use crate::data::{Argument, Fact, Predicate, Role, Rule, Slot, Symbol, Theory};
 use crate::faults::{Flaw, TableFault};
-
-/// How many rows and predicates a fact can name; `own` is `None` where no role is told.
-#[derive(Clone, Copy)]
-pub(crate) struct Sizes {
-    rows: usize,
-    memory: usize,
-    own: Option<usize>,
-}
-
-/// Whether the number is one of `count`, counted from 1.
-fn is_there(count: usize, number: usize) -> bool
-    ensures { result ≡ is_row count number }
-{
-    0 < number && number <= count
-}
+use crate::numbered::check_numbered;
+use layouts::layout::Params;
+use refusals::walk::{Place, check_each};
+use terms::places::is_number;
 
 /// Whether the parameter is a name or an earlier place.
 fn is_slot_there(earlier: usize, slot: Slot) -> bool
@@ -27,13 +14,15 @@ fn is_slot_there(earlier: usize, slot: Slot) -> bool
 {
     match slot {
         Slot::Name(_) => true,
-        Slot::Place(place) => is_there(earlier, place),
+        Slot::Place(place) => is_number(earlier, place),
     }
 }
 
+/// Whether each of the parameters is.
 fn are_slots_there(earlier: usize, slots: Params<Slot>) -> bool
     ensures { result ≡ slots_there earlier slots }
 {
+    // Parameters are no list: a chain over them would first have to make one.
     match slots {
         Params::Zero => true,
         Params::One(p) => is_slot_there(earlier, p),
@@ -45,149 +34,133 @@ fn are_slots_there(earlier: usize, slots: Params<Slot>) -> bool
 fn are_arguments_there(arguments: &[Argument]) -> bool
     ensures { result ≡ arguments_there 0 arguments.now }
 {
-    for (i, argument) in arguments.iter().enumerate() {
-        if !are_slots_there(i, argument.params) {
-            return false;
-        }
-    }
-    true
+    arguments
+        .iter()
+        .enumerate()
+        .all(|(i, argument)| are_slots_there(i, argument.params))
 }
 
-fn is_symbol_there(sizes: Sizes, symbol: Symbol) -> bool
-    ensures { result ≡ symbol_there sizes symbol }
+/// Predicate by predicate; the first has the spot after `before`.
+fn check_predicates(predicates: &[Predicate], role: usize, before: usize) -> Result<(), TableFault>
+    requires { before + length predicates.now < 2 ^ 64 }
+    ensures { result ≡ predicates_missing role before predicates.now }
 {
-    match symbol {
-        Symbol::Network => true,
-        Symbol::Memory(number) => is_there(sizes.memory, number),
-        Symbol::Role(number) => match sizes.own {
-            Some(count) => is_there(count, number),
-            None => true,
-        },
-    }
-}
-
-fn are_rows_there(count: usize, rows: &[usize]) -> bool
-    ensures { result ≡ rows_there count rows.now }
-{
-    for row in rows {
-        if !is_there(count, *row) {
-            return false;
-        }
-    }
-    true
-}
-
-/// Whether the predicate of a fact and all its rows are there.
-fn is_fact_there(sizes: Sizes, fact: &Fact) -> bool
-    ensures { result ≡ fact_there sizes fact.now }
-{
-    is_symbol_there(sizes, fact.symbol) && are_rows_there(sizes.rows, fact.rows.as_slice())
-}
-
-/// Predicate by predicate; the first has the spot after `base`.
-fn check_predicates(predicates: &[Predicate], role: usize, base: usize) -> Result<(), TableFault>
-    requires { base + length predicates.now < 2 ^ 64 }
-    ensures { result ≡ predicates_missing role base predicates.now }
-{
-    for (i, predicate) in predicates.iter().enumerate() {
-        if !are_arguments_there(predicate.arguments.as_slice()) {
-            return Err(TableFault {
-                role,
-                rule: 0,
-                spot: base + (i + 1),
-                flaw: Flaw::Missing,
-            });
-        }
-    }
-    Ok(())
-}
-
-/// Fact by fact; the first has the spot after `base`.
-fn check_facts(
-    sizes: Sizes,
-    facts: &[Fact],
-    role: usize,
-    rule: usize,
-    base: usize,
-) -> Result<(), TableFault>
-    requires { base + length facts.now < 2 ^ 64 }
-    ensures { result ≡ facts_missing sizes role rule base facts.now }
-{
-    for (i, fact) in facts.iter().enumerate() {
-        if !is_fact_there(sizes, fact) {
-            return Err(TableFault {
-                role,
-                rule,
-                spot: base + (i + 1),
-                flaw: Flaw::Missing,
-            });
-        }
-    }
-    Ok(())
-}
-
-/// The left facts of a rule, then its right facts.
-fn check_rule(
-    sizes: Sizes,
-    left: &[Fact],
-    right: &[Fact],
-    role: usize,
-    number: usize,
-) -> Result<(), TableFault>
-    requires { length left.now + length right.now < 2 ^ 64 }
-    ensures { result ≡ rule_missing sizes role number left.now right.now }
-{
-    check_facts(sizes, left, role, number, 0)?;
-    check_facts(sizes, right, role, number, left.len())
-}
-
-/// Rule by rule.
-fn check_rules(sizes: Sizes, rules: &[Rule], role: usize) -> Result<(), TableFault>
-    ensures { result ≡ rules_missing sizes role rules.now }
-{
-    for (i, rule) in rules.iter().enumerate() {
-        check_rule(
-            sizes,
-            rule.left.as_slice(),
-            rule.right.as_slice(),
-            role,
-            i + 1,
-        )?;
-    }
-    Ok(())
-}
-
-/// The predicates of a role, then its rules.
-fn check_role(
-    sizes: Sizes,
-    predicates: &[Predicate],
-    rules: &[Rule],
-    number: usize,
-) -> Result<(), TableFault>
-    ensures { result ≡ role_missing sizes number predicates.now rules.now }
-{
-    check_predicates(predicates, number, 0)?;
-    let own = Sizes {
-        rows: sizes.rows,
-        memory: sizes.memory,
-        own: Some(predicates.len()),
+    let place = Place {
+        role,
+        rule: 0,
+        before,
     };
-    check_rules(own, rules, number)
+    check_each(predicates, place, |_, predicate| {
+        are_arguments_there(predicate.arguments.as_slice())
+            .then_some(())
+            .ok_or(Flaw::Missing)
+    })
 }
 
-/// Role by role.
-fn check_roles(sizes: Sizes, roles: &[Role]) -> Result<(), TableFault>
-    ensures { result ≡ roles_missing sizes roles.now }
-{
-    for (i, role) in roles.iter().enumerate() {
-        check_role(
-            sizes,
-            role.predicates.as_slice(),
-            role.rules.as_slice(),
-            i + 1,
-        )?;
+/// How many rows and predicates a fact can name; `own` is `None` where no role is told.
+#[derive(Clone, Copy)]
+pub(crate) struct Sizes {
+    rows: usize,
+    memory: usize,
+    own: Option<usize>,
+}
+
+impl Sizes {
+    /// Those of the theory, no role being told.
+    fn of(theory: &Theory) -> Sizes
+        ensures { result ≡ sizes_of theory.now }
+    {
+        Sizes {
+            rows: theory.book.rows().len(),
+            memory: theory.memory.len(),
+            own: None,
+        }
     }
-    Ok(())
+
+    /// The same in a role with so many predicates.
+    fn in_role(self, predicates: usize) -> Sizes
+        ensures { result ≡ with_own self predicates }
+    {
+        Sizes {
+            own: Some(predicates),
+            ..self
+        }
+    }
+
+    /// Whether the predicate is there.
+    fn has_symbol(self, symbol: Symbol) -> bool
+        ensures { result ≡ symbol_there self symbol }
+    {
+        match symbol {
+            Symbol::Network => true,
+            Symbol::Memory(number) => is_number(self.memory, number),
+            Symbol::Role(number) => self.own.is_none_or(|count| is_number(count, number)),
+        }
+    }
+
+    /// Whether all the rows are there.
+    fn has_rows(self, rows: &[usize]) -> bool
+        ensures { result ≡ rows_there self.rows rows.now }
+    {
+        rows.iter().all(|row| is_number(self.rows, *row))
+    }
+
+    /// Whether the predicate of a fact and all its rows are there.
+    fn has(self, fact: &Fact) -> bool
+        ensures { result ≡ fact_there self fact.now }
+    {
+        self.has_symbol(fact.symbol) && self.has_rows(fact.rows.as_slice())
+    }
+
+    /// Fact by fact.
+    fn check_facts(self, facts: &[Fact], place: Place) -> Result<(), TableFault>
+        requires { place.before + length facts.now < 2 ^ 64 }
+        ensures { result ≡ facts_missing self place.role place.rule place.before facts.now }
+    {
+        check_each(facts, place, |_, fact| {
+            self.has(fact).then_some(()).ok_or(Flaw::Missing)
+        })
+    }
+
+    /// The left facts of a rule, then its right facts, which count on.
+    fn check_rule(self, rule: &Rule, role: usize, number: usize) -> Result<(), TableFault>
+        ensures { result ≡ rule_missing self role number (vec_items rule.now.left) (vec_items rule.now.right) }
+    {
+        let left = Place {
+            role,
+            rule: number,
+            before: 0,
+        };
+        let right = Place {
+            before: rule.left.len(),
+            ..left
+        };
+        self.check_facts(rule.left.as_slice(), left)?;
+        self.check_facts(rule.right.as_slice(), right)
+    }
+
+    /// Rule by rule.
+    fn check_rules(self, rules: &[Rule], role: usize) -> Result<(), TableFault>
+        ensures { result ≡ rules_missing self role rules.now }
+    {
+        check_numbered(rules, |number, rule| self.check_rule(rule, role, number))
+    }
+
+    /// The predicates of a role, then its rules.
+    fn check_role(self, role: &Role, number: usize) -> Result<(), TableFault>
+        ensures { result ≡ role_missing self number (vec_items role.now.predicates) (vec_items role.now.rules) }
+    {
+        check_predicates(role.predicates.as_slice(), number, 0)?;
+        let own = self.in_role(role.predicates.len());
+        own.check_rules(role.rules.as_slice(), number)
+    }
+
+    /// Role by role.
+    fn check_roles(self, roles: &[Role]) -> Result<(), TableFault>
+        ensures { result ≡ roles_missing self roles.now }
+    {
+        check_numbered(roles, |number, role| self.check_role(role, number))
+    }
 }
 
 /// Everything that the theory and its initial facts name is there.
@@ -195,11 +168,12 @@ pub(crate) fn check_missing(theory: &Theory, initial: &[Fact]) -> Result<(), Tab
     ensures { result ≡ missing_check theory.now initial.now }
 {
     check_predicates(theory.memory.as_slice(), 0, theory.names.len())?;
-    let sizes = Sizes {
-        rows: theory.book.rows().len(),
-        memory: theory.memory.len(),
-        own: None,
+    let sizes = Sizes::of(theory);
+    sizes.check_roles(theory.roles.as_slice())?;
+    let place = Place {
+        role: 0,
+        rule: 0,
+        before: 0,
     };
-    check_roles(sizes, theory.roles.as_slice())?;
-    check_facts(sizes, initial, 0, 0, 0)
+    sizes.check_facts(initial, place)
 }

@@ -11,17 +11,16 @@ pub enum Owner {
     Anchored(u32),
 }
 
-impl Owner {
-    /// Who variable 0 is in a role with this anchor.
-    pub fn of(anchor: Option<u32>) -> Owner
-        ensures { result ≡ owner_of anchor }
-    {
-        match anchor {
-            Some(a) => Owner::Anchored(a),
-            None => Owner::Generic,
-        }
-    }
+/// Who variable 0 is in a role with this anchor.
+impl From<Option<u32>> for Owner {
+    ghost from_gives = { λ anchor owner. owner ≡ owner_of anchor };
 
+    fn from(anchor: Option<u32>) -> Owner {
+        anchor.map_or(Owner::Generic, Owner::Anchored)
+    }
+}
+
+impl Owner {
     /// The item as a role reads it.
     pub fn read(self, item: Item) -> Item
         ensures { result ≡ item_of self item }

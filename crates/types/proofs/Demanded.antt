@@ -9,7 +9,8 @@ use Rattle.refusals.specs.Walks.{Answer, pass, demand, and_then, walk}
 use Rattle.types.specs.Judged.{type_of, context_of}
 use Rattle.types.specs.Rows.{term_at}
 use Rattle.types.specs.Names.{names_only, name_check, at_name, names_check}
-use Rattle.types.specs.Predicates.{argument_formed, argument_check, same_place, arguments_formed, first_principal, predicate_check, at_spot, listed_check, predicates_check}
+use Rattle.types.specs.Predicates.{argument_formed, argument_check, same_place, arguments_formed, first_principal, predicate_check, listed_check, predicates_check}
+use Rattle.refusals.specs.Faults.{at_spot}
 use Rattle.types.specs.Facts.{ledger, arguments_check, fact_check}
 use Rattle.types.specs.Rules.{Place, over, same, variable_check, variables_check, predicate_at, a_message, listed_fact, symbol_check, fact_with, facts_check, rule_check}
 use Rattle.types.specs.Theories.{here, place_of, numbered_check, rules_check, anchor_check, role_at, placed_check, roles_check, theory_check}
@@ -37,7 +38,7 @@ use Rattle.theory.specs.declared.data.Role.{Role}
 use Rattle.theory.specs.declared.data.Theory.{Theory}
 use Rattle.types.specs.declared.faults.Ill.{Ill}
 use Rattle.types.specs.declared.faults.Ill.TheVariants.{Taken, Unformed, NoPrincipal, Count, Undeclared, Lacks}
-use Rattle.types.specs.declared.faults.TypeFault.{TypeFault}
+use Rattle.types.specs.Faults.{TypeFault}
 use Rattle.types.specs.Theories as theories
 use Rattle.theory.specs.declared.data.Symbol.TheVariants as symbol
 
@@ -119,7 +120,7 @@ module _ (lay : Meaning) where
         (λ q. facts_first e (us ++ ms) ((variables_pass lay e us ms formed₁).holds q) (length ls) rs)))
 
   module _ (law : Lawful lay) (ds : List Declared) (formed : Formed lay (signature ds)) (memory : List Predicate) (rows : List Row) where
-    anchor_first : (n : ℕ) (anchor : Option ℕ) → First ((record { role = n; rule = 0; spot = 0; ill = NoPrincipal }, AnchorTyped ds anchor) ∷ []) (anchor_check ds n anchor)
+    anchor_first : (n : ℕ) (anchor : Option ℕ) → First ((record { role = n; rule = 0; spot = 0; why = NoPrincipal }, AnchorTyped ds anchor) ∷ []) (anchor_check ds n anchor)
     anchor_first n None = inr (tt {0}, refl)
     anchor_first n (Some a) = first_demand _ _ _ [] pass (suited_decides lay (names_only ds) formed (Name a) 1) (λ _. refl)
 
@@ -127,7 +128,7 @@ module _ (lay : Meaning) where
     role_first n R =
         let Ps = vec_items R.predicates in
         let e = place_of ds memory rows n R.anchor Ps in
-        first_then same ((record { role = n; rule = 0; spot = 0; ill = NoPrincipal }, AnchorTyped ds R.anchor) ∷ []) _ (anchor_check ds n R.anchor) _ (anchor_first n R.anchor)
+        first_then same ((record { role = n; rule = 0; spot = 0; why = NoPrincipal }, AnchorTyped ds R.anchor) ∷ []) _ (anchor_check ds n R.anchor) _ (anchor_first n R.anchor)
         (λ _. first_then same (predicates_lines lay ds n 0 Ps) _ (predicates_check lay ds n 0 Ps) _ (predicates_first ds formed n 0 Ps)
         (λ _. first_walk (numbered_check lay e) (λ seen r. rule_lines lay (theories.numbered e (length seen + 1)) r) here (λ seen. Unit {0})
         (λ seen r j. rule_first (theories.numbered e (length seen + 1)) (owner_formed lay ds formed law R.anchor) r) (λ seen r j h. tt {0}) (vec_items R.rules) [] (tt {0})))

@@ -9,7 +9,8 @@ use Rattle.judgments.specs.Typing.{Formed}
 use Rattle.judgments.specs.Predicates.{SlotSuits, SlotsSuit, ArgumentFormed, ArgumentsFormed, FirstPrincipal, PredicateFormed}
 use Rattle.types.specs.Names.{names_only}
 use Rattle.types.specs.Judged.{slot_of, slot_list, argument_of}
-use Rattle.types.specs.Predicates.{argument_is, slot_suited, slots_suited, argument_formed, argument_check, same_place, arguments_formed, first_principal, predicate_check, at_spot, listed_check, predicates_check}
+use Rattle.types.specs.Predicates.{argument_is, slot_suited, slots_suited, argument_formed, argument_check, same_place, arguments_formed, first_principal, predicate_check, listed_check, predicates_check}
+use Rattle.refusals.specs.Faults.{at_spot}
 use Rattle.types.specs.Typed.{takes, signature, AllFormed}
 use Rattle.refusals.specs.Decides.{Decides, Passes}
 use Rattle.refusals.proofs.Deciding.{decides_and, decides_lt, decides_same, decides_as, decides_never, decides_always, demand_passes, passes_always, passes_as, then_passes, Each, walk_each, walk_members}

@@ -1,5 +1,5 @@
 -- The check of a rule decides whether it has its types.
-use Rattle.std.proofs.Common.{◌≡◌, ℕ, zero, suc, ◌+◌, ◌<◌, List, [], ◌∷◌, ◌++◌, map, length, Some, None, vec_items, Option, sym, refl, ap, ◌∙◌, subst, ap₂, ⊎_elim, append_assoc, append-nil, arith}
+use Rattle.std.proofs.Common.{◌≡◌, ℕ, zero, suc, ◌+◌, ◌<◌, List, [], ◌∷◌, ◌++◌, map, length, Some, None, vec_items, Option, sym, refl, ap, ◌∙◌, subst, ⊎_elim, append_assoc, append-nil, arith}
 use mathlib.Core.List.Memᴰ
 use Rattle.std.specs.List.{slice_get}
 use Rattle.judgments.specs.Contexts.{◌∶◌, Context, Decl, ◌∈◌}
@@ -10,8 +10,8 @@ use Rattle.judgments.proofs.Contexts.{not_zero, formed_below}
 use Rattle.types.specs.Judged.{declare, name_decl, variable_decl, with_owner, context_of, argument_of}
 use Rattle.types.specs.Rows.{term_at}
 use Rattle.types.specs.Facts.{ledger}
-use Rattle.types.specs.Predicates.{at_spot}
-use Rattle.types.specs.Rules.{Place, over, variable_check, variables_check, predicate_at, listed_fact, a_message, symbol_check, fact_with, facts_check, same, parts_check, rule_check}
+use Rattle.refusals.specs.Faults.{at_spot}
+use Rattle.types.specs.Rules.{Place, over, variable_check, variables_check, predicate_at, listed_fact, a_message, symbol_check, fact_with, facts_check, same, rule_check}
 use Rattle.types.specs.Typed.{symbol_of, takes, table_of, fact_of, rule_of}
 use Rattle.refusals.specs.Decides.{Passes}
 use Rattle.refusals.proofs.Deciding.{demand_passes, passes_always, passes_as, then_passes, walk_passes, Each, walk_each}
@@ -32,10 +32,6 @@ use Rattle.terms.specs.declared.row.Item.TheVariants.{Variable}
 use Rattle.judgments.specs.Contexts as judge
 use Rattle.judgments.specs.Rules as rules
 use Rattle.theory.specs.declared.data.Symbol.TheVariants as symbol
-
-pub parts_same : (lay : Meaning) (e : Place) {us us' : List Ty} {ls ls' : List Fact} {ms ms' : List Ty} {rs rs' : List Fact} → us ≡ us' → ls ≡ ls' → ms ≡ ms' → rs ≡ rs' → parts_check lay e us ls ms rs ≡ parts_check lay e us' ls' ms' rs'
-parts_same lay e {us = us} {us' = us'} {ls = ls} {ls' = ls'} {ms = ms} {ms' = ms'} {rs = rs} {rs' = rs'} p q s t =
-    ap₂ (λ us ls. parts_check lay e us ls ms rs) p q ∙ ap₂ (λ ms rs. parts_check lay e us' ls' ms rs) s t
 
 nth_within : {X : Type 0} (xs : List X) (k : ℕ) (x : X) → slice_get xs k ≡ Some x → k < length xs
 nth_within [] k x e = not_zero (cc)

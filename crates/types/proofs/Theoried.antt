@@ -1,5 +1,5 @@
 -- The type check decides whether a theory has its types.
-use Rattle.std.proofs.Common.{◌≡◌, ℕ, suc, ◌+◌, eqb, List, [], ◌∷◌, map, length, Some, None, vec_items, Option, sym, refl, ap, ◌∙◌, subst, ap₂, ⊎_elim}
+use Rattle.std.proofs.Common.{◌≡◌, ℕ, suc, ◌+◌, eqb, List, [], ◌∷◌, map, length, Some, None, vec_items, Option, sym, refl, ap, subst, ⊎_elim}
 use Rattle.std.specs.List.{slice_get}
 use Rattle.terms.specs.Held.{rows_of}
 use Rattle.std.proofs.lemmas.Bool.{cases_Bool}
@@ -14,7 +14,7 @@ use Rattle.theory.specs.Owners.{item_of, owner_of}
 use Rattle.types.specs.Judged.{declare, name_decl, context_of}
 use Rattle.types.specs.Predicates.{predicates_check}
 use Rattle.types.specs.Rules.{same}
-use Rattle.types.specs.Theories.{here, numbered, numbered_check, rules_check, anchor_check, place_of, role_at, placed_check, tables_check, theory_check}
+use Rattle.types.specs.Theories.{here, numbered, numbered_check, rules_check, anchor_check, place_of, role_at, placed_check, theory_check}
 use Rattle.types.specs.Typed.{signature, AnchorTyped, RuleTypedIn, RoleTyped, TheoryTyped}
 use Rattle.refusals.specs.Decides.{Passes}
 use Rattle.refusals.proofs.Deciding.{demand_passes, passes_always, passes_as, then_passes, walk_members}
@@ -97,7 +97,3 @@ theory_passes lay law T =
     (then_passes same (names_check lay ds) _ (names_judged lay ds)
     (λ formed. then_passes same (predicates_check lay ds 0 (length ds) memory) _ (predicates_pass lay ds formed 0 (length ds) memory)
     (λ _. walk_members (placed_check lay ds memory rows) here (RoleTyped lay ds memory rows) (λ seen R. role_passes lay ds formed law memory rows (length seen + 1) R) Rs [])))
-
-pub tables_same : (lay : Meaning) {ds ds' : List Declared} {ms ms' : List Predicate} {rows rows' : List Row} {Rs Rs' : List Role} → ds ≡ ds' → ms ≡ ms' → rows ≡ rows' → Rs ≡ Rs' → tables_check lay ds ms rows Rs ≡ tables_check lay ds' ms' rows' Rs'
-tables_same lay {ds = ds} {ds' = ds'} {ms = ms} {ms' = ms'} {rows = rows} {rows' = rows'} {Rs = Rs} {Rs' = Rs'} p q s t =
-    ap₂ (λ ds ms. tables_check lay ds ms rows Rs) p q ∙ ap₂ (λ rows Rs. tables_check lay ds' ms' rows Rs) s t

@@ -13,7 +13,7 @@ use Rattle.refusals.specs.Demands.{Lines, carried, lines}
 use Rattle.types.specs.Judged.{type_of, context_of, slot_of, slot_list}
 use Rattle.types.specs.Rows.{term_at}
 use Rattle.types.specs.Names.{at_name}
-use Rattle.types.specs.Predicates.{at_spot}
+use Rattle.refusals.specs.Faults.{at_spot, refusal_by}
 use Rattle.types.specs.Rules.{Place, over, predicate_at, a_message, same}
 use Rattle.types.specs.Theories.{here, place_of}
 use Rattle.types.specs.Typed.{takes, signature, AnchorTyped}
@@ -30,7 +30,7 @@ use Rattle.theory.specs.declared.data.Role.{Role}
 use Rattle.theory.specs.declared.data.Theory.{Theory}
 use Rattle.types.specs.declared.faults.Ill.{Ill}
 use Rattle.types.specs.declared.faults.Ill.TheVariants.{Taken, Unformed, NoPrincipal, Count, Undeclared, Lacks}
-use Rattle.types.specs.declared.faults.TypeFault.{TypeFault}
+use Rattle.types.specs.Faults.{TypeFault}
 use Rattle.terms.specs.declared.row.Item.TheVariants.{Name}
 use Rattle.judgments.specs.Contexts as judge
 use Rattle.types.specs.Theories as theories
@@ -54,7 +54,7 @@ row_of (Lacks k) = k
 
 -- The six numbers of a fault.
 abbrev pub refusal_of : TypeFault → Refusal
-refusal_of f = record { number = number_of f.ill; layer = 3; role = f.role; rule = f.rule; spot = f.spot; row = row_of f.ill }
+refusal_of f = refusal_by 3 number_of row_of f
 
 abbrev pub numbered : Answer TypeFault → Answer Refusal
 numbered (Ok u) = Ok u
@@ -117,7 +117,7 @@ predicates_lines lay ds role base Ps = lines (predicate_lines lay ds) (at_spot r
 -- the anchor, the predicates, the rules
 abbrev pub role_lines : Meaning → List Declared → List Predicate → List Row → ℕ → Role → Lines TypeFault
 role_lines lay ds memory rows n R =
-    ((record { role = n; rule = 0; spot = 0; ill = NoPrincipal }, AnchorTyped ds R.anchor) ∷ [])
+    ((record { role = n; rule = 0; spot = 0; why = NoPrincipal }, AnchorTyped ds R.anchor) ∷ [])
     ++ (carried same (predicates_lines lay ds n 0 (vec_items R.predicates))
     ++ lines (λ seen r. rule_lines lay (theories.numbered (place_of ds memory rows n R.anchor (vec_items R.predicates)) (length seen + 1)) r) here [] (vec_items R.rules))
 

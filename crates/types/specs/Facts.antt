@@ -1,6 +1,9 @@
 -- The check of one fact.
-use Rattle.std.specs.Prelude.{ℕ, Bool, true, false, ◌&&◌, List, [], ◌∷◌, length, is_some, Some, None, Option, ◌==◌}
+use Rattle.std.specs.Prelude.{ℕ, Bool, false, ◌&&◌, List, [], ◌∷◌, length, is_some, Some, None, Option, ◌==◌}
 use Rattle.layouts.specs.Meanings.{Meaning}
+use Rattle.std.specs.List.{list_all}
+use Rattle.terms.specs.Held.{rows_of}
+use Rattle.types.specs.Forms.{mapped}
 use Rattle.types.specs.Scopes.{Declarations, scope_type}
 use Rattle.types.specs.Rows.{at, row_at, fill}
 use Rattle.types.specs.Messages.{key_type, marks, has_type}
@@ -12,10 +15,9 @@ use Rattle.theory.specs.Data.{Ty}
 use Rattle.terms.specs.declared.row.Row.{Row}
 use Rattle.theory.specs.declared.data.Slot.{Slot}
 use Rattle.theory.specs.Data.{Argument}
-use Rattle.types.specs.declared.scope.Marked.{Marked}
+use Rattle.types.specs.declared.marked.Marked.{Marked}
 use Rattle.types.specs.declared.faults.Ill.{Ill}
 use Rattle.types.specs.declared.faults.Ill.TheVariants.{Count, Undeclared, Lacks}
-use Rattle.layouts.specs.declared.layout.Params.TheVariants as params
 use Rattle.terms.specs.declared.row.Row.TheVariants as row
 use Rattle.theory.specs.declared.data.Slot.TheVariants as slot
 
@@ -36,14 +38,13 @@ pub record Ledger : Type 0 where
   pub message : List Bool
 
 abbrev pub ledger_of : Marked → Ledger
-ledger_of m = record { rows = m.rows.now; known = m.known.now; message = m.message.now }
+ledger_of m = record { rows = rows_of m.book.now; known = m.known.items; message = m.message.items }
 
 abbrev pub ledger : Meaning → Declarations → List Row → Ledger
 ledger lay s rows = record { rows = rows; known = knowns s rows; message = marks lay s rows }
 
 abbrev pub all_flags : List Bool → List ℕ → Bool
-all_flags flags [] = true
-all_flags flags (k ∷ ks) = at false flags k && all_flags flags ks
+all_flags flags ks = list_all (at false flags) ks
 
 abbrev pub item_in : Option Row → Item
 item_in None = Name 0
@@ -58,9 +59,7 @@ slot_item rows args (slot.Name n) = Name n
 slot_item rows args (slot.Place p) = item_in (row_at rows (at 0 args p))
 
 abbrev pub filled : List Row → List ℕ → Params Slot → Params Item
-filled rows args params.Zero = params.Zero
-filled rows args (params.One p) = params.One (slot_item rows args p)
-filled rows args (params.Two p q) = params.Two (slot_item rows args p) (slot_item rows args q)
+filled rows args ps = mapped (slot_item rows args) ps
 
 abbrev pub argument_type : List Row → List ℕ → Argument → Ty
 argument_type rows args A = record { family = A.family; params = filled rows args A.params }

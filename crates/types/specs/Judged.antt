@@ -1,6 +1,7 @@
 -- What the tables stand for in the judgments.
 use Rattle.std.specs.Prelude.{ℕ, ◌+◌, ◌-◌, cond, List, [], ◌∷◌, map, ◌==◌}
 use Rattle.judgments.specs.Contexts.{◌∶◌, Context}
+use Rattle.layouts.specs.Meanings.{listed}
 use Rattle.judgments.specs.Rules.{Place, named, place}
 use Rattle.theory.specs.Owners.{item_of}
 use Rattle.types.specs.Scopes.{Declarations}
@@ -16,7 +17,6 @@ use Rattle.theory.specs.declared.owner.Owner.TheVariants.{Nobody, Generic, Ancho
 use Rattle.judgments.specs.Contexts as judge
 use Rattle.judgments.specs.Rules as rules
 use Rattle.theory.specs.declared.data.Slot.TheVariants as slot
-use Rattle.layouts.specs.declared.layout.Params.TheVariants as params
 
 abbrev pub type_of : Owner → Ty → judge.Ty
 type_of o T = judge.ty T.family (map (item_of o) (items T.params))
@@ -46,9 +46,7 @@ slot_of (slot.Name n) = named n
 slot_of (slot.Place p) = cond (p == 0) (named 0) (place (p - 1))
 
 abbrev pub slot_list : Params Slot → List Slot
-slot_list params.Zero = []
-slot_list (params.One p) = p ∷ []
-slot_list (params.Two p q) = p ∷ q ∷ []
+slot_list ps = listed ps
 
 abbrev pub argument_of : Argument → rules.Argument
 argument_of A = rules.of_type A.family (map slot_of (slot_list A.params))

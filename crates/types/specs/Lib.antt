@@ -1,6 +1,8 @@
+pub mod Faults
 pub mod Scopes
 pub mod Types
 pub mod Names
+pub mod Forms
 pub mod Judged
 pub mod Rows
 pub mod Messages

@@ -8,7 +8,7 @@ use Rattle.theory.specs.declared.data.Declared.{Declared}
 use Rattle.theory.specs.declared.owner.Owner.TheVariants.{Nobody}
 use Rattle.types.specs.declared.faults.Ill.{Ill}
 use Rattle.types.specs.declared.faults.Ill.TheVariants.{Taken, Unformed}
-use Rattle.types.specs.declared.faults.TypeFault.{TypeFault}
+use Rattle.types.specs.Faults.{TypeFault}
 
 abbrev pub names_only : List Declared → Declarations
 names_only ds = record { names = ds; owner = Nobody; variables = [] }
@@ -24,7 +24,7 @@ abbrev pub name_check : Meaning → List Declared → Declared → Answer Ill
 name_check lay seen d = demand (free seen d.name) Taken (demand (type_formed lay (names_only seen) d.of) Unformed pass)
 
 abbrev pub at_name : ℕ → Ill → TypeFault
-at_name n f = record { role = 0; rule = 0; spot = n; ill = f }
+at_name n f = record { role = 0; rule = 0; spot = n; why = f }
 
 abbrev pub names_check : Meaning → List Declared → Answer TypeFault
 names_check lay ds = walk (name_check lay) at_name [] ds

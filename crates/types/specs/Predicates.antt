@@ -1,10 +1,11 @@
 -- The check of predicates.
-use Rattle.std.specs.Prelude.{ℕ, ◌+◌, ◌-◌, Bool, true, false, cond, ◌&&◌, List, [], ◌∷◌, Some, None, vec_items, Option, ◌==◌, nat_lt}
-use Rattle.std.specs.List.{slice_get}
+use Rattle.std.specs.Prelude.{ℕ, Bool, false, List, [], ◌∷◌, Some, None, vec_items, Option, ◌==◌}
+use Rattle.terms.specs.Numbered.{numbered}
+use Rattle.types.specs.Forms.{all_suit, formed_by}
+use Rattle.refusals.specs.Faults.{at_spot}
 use Rattle.layouts.specs.Meanings.{Meaning}
 use Rattle.types.specs.Scopes.{type_in}
 use Rattle.types.specs.Types.{has_family}
-use Rattle.types.specs.Judged.{slot_list}
 use Rattle.refusals.specs.Walks.{Answer, pass, demand, and_then, walk}
 use Rattle.theory.specs.declared.data.Declared.{Declared}
 use Rattle.theory.specs.declared.data.Slot.{Slot}
@@ -12,7 +13,7 @@ use Rattle.theory.specs.Data.{Argument}
 use Rattle.theory.specs.declared.data.Predicate.{Predicate}
 use Rattle.types.specs.declared.faults.Ill.{Ill}
 use Rattle.types.specs.declared.faults.Ill.TheVariants.{Unformed, NoPrincipal}
-use Rattle.types.specs.declared.faults.TypeFault.{TypeFault}
+use Rattle.types.specs.Faults.{TypeFault}
 use Rattle.theory.specs.declared.data.Slot.TheVariants as slot
 
 abbrev pub argument_is : Option Argument → ℕ → Bool
@@ -22,16 +23,13 @@ argument_is (Some A) F = A.family == F
 -- a declared name, or an earlier argument, of the family
 abbrev pub slot_suited : List Declared → List Argument → Slot → ℕ → Bool
 slot_suited ds earlier (slot.Name n) F = has_family (type_in ds n) F
-slot_suited ds earlier (slot.Place p) F = cond (p == 0) false (argument_is (slice_get earlier (p - 1)) F)
+slot_suited ds earlier (slot.Place p) F = argument_is (numbered earlier p) F
 
 abbrev pub slots_suited : List Declared → List Argument → List Slot → List ℕ → Bool
-slots_suited ds earlier [] [] = true
-slots_suited ds earlier [] (F ∷ Fs) = false
-slots_suited ds earlier (p ∷ ps) [] = false
-slots_suited ds earlier (p ∷ ps) (F ∷ Fs) = slot_suited ds earlier p F && slots_suited ds earlier ps Fs
+slots_suited ds earlier ps Fs = all_suit (slot_suited ds earlier) ps Fs
 
 abbrev pub argument_formed : Meaning → List Declared → List Argument → Argument → Bool
-argument_formed lay ds earlier A = nat_lt A.family lay.families && slots_suited ds earlier (slot_list A.params) (lay.params A.family)
+argument_formed lay ds earlier A = formed_by (slot_suited ds earlier) lay A
 
 abbrev pub argument_check : Meaning → List Declared → List Argument → Argument → Answer Ill
 argument_check lay ds earlier A = demand (argument_formed lay ds earlier A) Unformed pass
@@ -48,10 +46,6 @@ first_principal (A ∷ As) = A.family == 1
 
 abbrev pub predicate_check : Meaning → List Declared → List Argument → Answer Ill
 predicate_check lay ds As = and_then (λ f. f) (arguments_formed lay ds As) (demand (first_principal As) NoPrincipal pass)
-
--- where something of a role or a rule stands: its place, after those that were counted before
-abbrev pub at_spot : ℕ → ℕ → ℕ → ℕ → Ill → TypeFault
-at_spot role rule base n f = record { role = role; rule = rule; spot = base + n; ill = f }
 
 abbrev pub listed_check : Meaning → List Declared → List Predicate → Predicate → Answer Ill
 listed_check lay ds seen P = predicate_check lay ds (vec_items P.arguments)

@@ -1,12 +1,13 @@
 -- The check of a rule.
-use Rattle.std.specs.Prelude.{ℕ, ◌-◌, cond, List, [], ◌∷◌, ◌++◌, length, Some, None, Err, vec_items, Option, ◌==◌}
-use Rattle.std.specs.List.{slice_get}
+use Rattle.std.specs.Prelude.{ℕ, List, [], ◌∷◌, ◌++◌, length, Some, None, Err, vec_items, Option}
+use Rattle.terms.specs.Held.{rows_of}
+use Rattle.terms.specs.Numbered.{numbered}
 use Rattle.layouts.specs.Meanings.{Meaning}
 use Rattle.types.specs.Scopes.{Declarations}
 use Rattle.types.specs.Types.{type_formed}
 use Rattle.refusals.specs.Walks.{Answer, pass, demand, and_then, walk}
 use Rattle.types.specs.Facts.{Ledger, ledger, fact_check}
-use Rattle.types.specs.Predicates.{at_spot}
+use Rattle.refusals.specs.Faults.{at_spot}
 use Rattle.theory.specs.Data.{Ty}
 use Rattle.terms.specs.declared.row.Row.{Row}
 use Rattle.theory.specs.declared.data.Declared.{Declared}
@@ -19,7 +20,7 @@ use Rattle.theory.specs.declared.data.Rule.{Rule}
 use Rattle.types.specs.declared.scope.Setting.{Setting}
 use Rattle.types.specs.declared.faults.Ill.{Ill}
 use Rattle.types.specs.declared.faults.Ill.TheVariants.{Unformed, Count}
-use Rattle.types.specs.declared.faults.TypeFault.{TypeFault}
+use Rattle.types.specs.Faults.{TypeFault}
 use Rattle.layouts.specs.declared.layout.Params.TheVariants as params
 use Rattle.theory.specs.declared.data.Symbol.TheVariants as symbol
 
@@ -34,7 +35,7 @@ pub record Place : Type 0 where
   pub rule : ℕ
 
 abbrev pub setting_of : Setting → Place
-setting_of e = record { names = e.names.now; memory = e.memory.now; own = e.own.now; rows = e.rows.now; owner = e.owner; role = e.role; rule = e.rule }
+setting_of e = record { names = vec_items e.theory.now.names; memory = vec_items e.theory.now.memory; own = e.own.now; rows = rows_of e.theory.now.book; owner = e.owner; role = e.role; rule = e.rule }
 
 abbrev pub over : Place → List Ty → Declarations
 over e vs = record { names = e.names; owner = e.owner; variables = vs }
@@ -46,7 +47,7 @@ abbrev pub variables_check : Meaning → Place → List Ty → List Ty → Answe
 variables_check lay e before vs = walk (variable_check lay e before) (at_spot e.role e.rule (length before)) [] vs
 
 abbrev pub predicate_at : List Predicate → ℕ → Option Predicate
-predicate_at Ps m = cond (m == 0) None (slice_get Ps (m - 1))
+predicate_at Ps m = numbered Ps m
 
 -- a fact of a predicate that is not there has no right count of arguments
 abbrev pub listed_fact : Declarations → Ledger → Option Predicate → List ℕ → Answer Ill

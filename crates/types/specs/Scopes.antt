@@ -1,6 +1,7 @@
 -- What is declared at a point of a theory: the items with their types.
-use Rattle.std.specs.Prelude.{ℕ, ◌-◌, cond, List, [], ◌∷◌, ◌++◌, Some, None, Option, ◌==◌}
-use Rattle.std.specs.List.{slice_get}
+use Rattle.std.specs.Prelude.{ℕ, ◌-◌, cond, List, ◌++◌, Some, None, Option, ◌==◌}
+use Rattle.std.specs.List.{find, slice_get}
+use Rattle.std.specs.Option.{option_map}
 use Rattle.terms.specs.declared.row.Item.{Item}
 use Rattle.terms.specs.declared.row.Item.TheVariants.{Name, Variable}
 use Rattle.layouts.specs.declared.layout.Params.TheVariants.{Zero}
@@ -19,8 +20,7 @@ abbrev pub scope_of : Scope → Declarations
 scope_of s = record { names = s.names.now; owner = s.owner; variables = s.universal.now ++ s.made.now }
 
 abbrev pub type_in : List Declared → ℕ → Option Ty
-type_in [] n = None
-type_in (d ∷ ds) n = cond (d.name == n) (Some d.of) (type_in ds n)
+type_in ds n = option_map (λ (d : Declared). d.of) (find (λ (d : Declared). d.name == n) ds)
 
 abbrev pub a_principal : Ty
 a_principal = record { family = 1; params = Zero }

@@ -19,7 +19,7 @@ use Rattle.theory.specs.declared.data.Rule.{Rule}
 use Rattle.theory.specs.declared.data.Role.{Role}
 use Rattle.theory.specs.declared.data.Theory.{Theory}
 use Rattle.types.specs.declared.faults.Ill.TheVariants.{NoPrincipal}
-use Rattle.types.specs.declared.faults.TypeFault.{TypeFault}
+use Rattle.types.specs.Faults.{TypeFault}
 
 -- counts that a spot can tell, as the table check leaves them
 pub record SmallRule (R : Rule) : Type 0 where
@@ -44,7 +44,7 @@ rules_check lay e Rs = walk (numbered_check lay e) here [] Rs
 
 abbrev pub anchor_check : List Declared → ℕ → Option ℕ → Answer TypeFault
 anchor_check ds role None = pass
-anchor_check ds role (Some a) = demand (has_family (type_in ds a) 1) (record { role = role; rule = 0; spot = 0; ill = NoPrincipal }) pass
+anchor_check ds role (Some a) = demand (has_family (type_in ds a) 1) (record { role = role; rule = 0; spot = 0; why = NoPrincipal }) pass
 
 abbrev pub place_of : List Declared → List Predicate → List Row → ℕ → Option ℕ → List Predicate → Place
 place_of ds memory rows number anchor Ps = record { names = ds; memory = memory; own = Ps; rows = rows; owner = owner_of anchor; role = number; rule = 0 }

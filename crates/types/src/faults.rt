@@ -1,8 +1,10 @@
-ghost use Rattle.std.specs.Prelude.{◌≡◌};
-ghost use Rattle.types.specs.Demands.{refusal_of};
+ghost use Rattle.std.specs.Prelude.{◌≡◌, Some};
+ghost use Rattle.refusals.specs.Walks.{demand, pass};
+ghost use Rattle.types.specs.Demands.{number_of, row_of};
 ghost use Rattle.types.specs.Reasons.{reason_of};
 
-use refusals::Refusal;
+use refusals::fault::{Fault, Reason};
+use std::fmt;
 
 /// What is ill about a name, an anchor, a variable, a predicate or a fact.
 #[derive(Clone, Copy, PartialEq, Eq)]
@@ -21,49 +23,58 @@ pub enum Ill {
     Lacks(usize),
 }
 
-/// What is ill, and where: the role and the rule, counted from 1, and the spot in it.
-#[derive(Clone, Copy, PartialEq, Eq)]
-pub struct TypeFault {
-    pub role: usize,
-    pub rule: usize,
-    pub spot: usize,
-    pub ill: Ill,
-}
+/// What is ill, and where.
+pub type TypeFault = Fault<Ill>;
 
-impl TypeFault {
-    /// The six numbers of the fault.
-    pub fn refusal(self) -> Refusal
-        ensures { result ≡ refusal_of self }
-    {
-        let (number, row) = match self.ill {
-            Ill::Taken => (10, 0),
-            Ill::Unformed => (11, 0),
-            Ill::NoPrincipal => (12, 0),
-            Ill::Count => (13, 0),
-            Ill::Undeclared => (14, 0),
-            Ill::Lacks(row) => (15, row),
-        };
-        Refusal {
-            number,
-            layer: 3,
-            role: self.role,
-            rule: self.rule,
-            spot: self.spot,
-            row,
+impl Reason for Ill {
+    ghost layer_number = { 3 };
+
+    ghost number_of = { number_of };
+
+    ghost row_of = { row_of };
+
+    fn layer() -> u8 {
+        3
+    }
+
+    fn number(self) -> u8 {
+        match self {
+            Ill::Taken => 10,
+            Ill::Unformed => 11,
+            Ill::NoPrincipal => 12,
+            Ill::Count => 13,
+            Ill::Undeclared => 14,
+            Ill::Lacks(_) => 15,
         }
     }
 
-    /// The reason in words.
-    pub fn reason(self) -> &'static str
-        ensures { result.now ≡ reason_of self.ill }
-    {
-        match self.ill {
+    fn row(self) -> usize {
+        match self {
+            Ill::Lacks(row) => row,
+            _ => 0,
+        }
+    }
+}
+
+/// The reason in words.
+impl fmt::Display for Ill {
+    ghost output = { λ ill. Some (reason_of ill) };
+
+    fn fmt<W: fmt::Write>(&self, f: &mut fmt::Formatter<W>) -> fmt::Result {
+        f.write_str(match self {
             Ill::Taken => "the name is zero or repeated",
             Ill::Unformed => "a type is not well formed",
             Ill::NoPrincipal => "the anchor or the first argument type is absent or no principal",
             Ill::Count => "the fact has a wrong count of arguments",
             Ill::Undeclared => "an item in the fact is not declared before",
             Ill::Lacks(_) => "a term lacks the type of its argument",
-        }
+        })
     }
+}
+
+/// Refuses where what is demanded is not met.
+pub(crate) fn demand(is_met: bool, why: Ill) -> Result<(), Ill>
+    ensures { result ≡ demand is_met why pass }
+{
+    is_met.then_some(()).ok_or(why)
 }

@@ -3,6 +3,8 @@
 
 mod facts;
 pub mod faults;
+pub mod forms;
+mod marked;
 mod names;
 mod predicates;
 mod rows;

@@ -1,14 +1,15 @@
-ghost use Rattle.std.specs.Prelude.{◌≡◌, []};
+ghost use Rattle.std.specs.Prelude.{◌≡◌};
 ghost use Rattle.types.specs.Scopes.{type_in, scope_type, scope_of};
-ghost use Rattle.types.specs.Types.{type_formed, suited};
+ghost use Rattle.types.specs.Types.{has_family, type_formed};
 ghost use Rattle.types.specs.Names.{name_check, names_check, names_only};
 ghost use Rattle.types.specs.Judged.{context_of};
 ghost use Rattle.refusals.specs.Decides.{Passes};
 ghost use Rattle.judgments.specs.Typing.{Formed};
 
-use crate::faults::{Ill, TypeFault};
+use crate::faults::{Ill, TypeFault, demand};
+use crate::forms::{is_formed_by, plain};
 use crate::scope::Scope;
-use layouts::layout::{Layout, Params};
+use layouts::layout::{Layout, PRINCIPAL};
 use terms::row::Item;
 use theory::data::{Declared, Ty};
 use theory::owner::Owner;
@@ -17,12 +18,10 @@ use theory::owner::Owner;
 pub(crate) fn name_type(names: &[Declared], name: u32) -> Option<Ty>
     ensures { result ≡ type_in names.now name }
 {
-    for d in names {
-        if d.name == name {
-            return Some(d.of);
-        }
-    }
-    None
+    names
+        .iter()
+        .find(|declared| declared.name == name)
+        .map(|declared| declared.of)
 }
 
 /// The type that an item has by its declaration.
@@ -33,69 +32,48 @@ pub(crate) fn item_type(scope: Scope, item: Item) -> Option<Ty>
         Item::Name(n) => name_type(scope.names, n),
         Item::Variable(0) => match scope.owner {
             Owner::Nobody => None,
-            Owner::Generic => Some(Ty {
-                family: 1,
-                params: Params::Zero,
-            }),
+            Owner::Generic => Some(plain(PRINCIPAL)),
             Owner::Anchored(n) => name_type(scope.names, n),
         },
-        Item::Variable(v) => {
-            let place = v as usize - 1;
-            if place < scope.universal.len() {
-                return Some(scope.universal[place]);
-            }
-            let later = place - scope.universal.len();
-            if later < scope.made.len() {
-                return Some(scope.made[later]);
-            }
-            None
-        }
+        Item::Variable(v) => scope
+            .universal
+            .iter()
+            .chain(scope.made)
+            .nth(v as usize - 1)
+            .copied(),
     }
 }
 
-pub(crate) fn is_of(scope: Scope, item: Item, family: u8) -> bool
-    ensures { result ≡ suited (scope_of scope.entry) item family }
+/// Whether there is a type, and it is of the family.
+pub(crate) fn has_family(of: Option<Ty>, family: u8) -> bool
+    ensures { result ≡ has_family of family }
 {
-    match item_type(scope, item) {
-        Some(of) => of.family == family,
-        None => false,
-    }
+    of.is_some_and(|of| of.family == family)
 }
 
 pub(crate) fn is_formed<L: Layout>(layout: &L, scope: Scope, of: Ty) -> bool
     ensures { result ≡ type_formed (L.meaning layout.now) (scope_of scope.entry) of }
 {
-    if of.family >= layout.families() {
-        return false;
-    }
-    match (of.params, layout.parameters(of.family)) {
-        (Params::Zero, Params::Zero) => true,
-        (Params::One(p), Params::One(f)) => is_of(scope, p, f),
-        (Params::Two(p, q), Params::Two(f, g)) => is_of(scope, p, f) && is_of(scope, q, g),
-        _ => false,
-    }
+    is_formed_by(
+        layout,
+        of,
+        |p, family| has_family(item_type(scope, p), family),
+    )
 }
 
 /// Whether a name may be declared after those of the scope.
 fn check_name<L: Layout>(layout: &L, before: &[Declared], declared: Declared) -> Result<(), Ill>
     ensures { result ≡ name_check (L.meaning layout.now) before.now declared }
 {
-    if declared.name == 0 {
-        return Err(Ill::Taken);
-    }
-    if let Some(_) = name_type(before, declared.name) {
-        return Err(Ill::Taken);
-    }
+    let is_free = declared.name != 0 && name_type(before, declared.name).is_none();
+    demand(is_free, Ill::Taken)?;
     let scope = Scope {
         names: before,
         owner: Owner::Nobody,
         universal: &[],
         made: &[],
     };
-    if !is_formed(layout, scope, declared.of) {
-        return Err(Ill::Unformed);
-    }
-    Ok(())
+    demand(is_formed(layout, scope, declared.of), Ill::Unformed)
 }
 
 /// The signature; a fault's spot is the place of the name.
@@ -103,13 +81,14 @@ pub(crate) fn check_names<L: Layout>(layout: &L, names: &[Declared]) -> Result<(
     ensures answer { result ≡ names_check (L.meaning layout.now) names.now }
     ensures judged { Passes result (Formed (L.meaning layout.now) (context_of (names_only names.now))) }
 {
+    // A rule of the project: a `for` loop over the declared records, whose index is the spot.
     for (i, declared) in names.iter().enumerate() {
-        if let Err(ill) = check_name(layout, &names[0..i], *declared) {
+        if let Err(why) = check_name(layout, &names[0..i], *declared) {
             return Err(TypeFault {
                 role: 0,
                 rule: 0,
                 spot: i + 1,
-                ill,
+                why,
             });
         }
     }

@@ -1,9 +1,12 @@
 ghost use Rattle.std.specs.Prelude.{◌≡◌, ◌+◌, ◌^◌, ◌<◌, length};
 ghost use Rattle.types.specs.Predicates.{slot_suited, argument_formed, arguments_formed, predicate_check, predicates_check};
 
-use crate::faults::{Ill, TypeFault};
-use crate::names::name_type;
-use layouts::layout::{Layout, Params};
+use crate::faults::{Ill, TypeFault, demand};
+use crate::forms::is_formed_by;
+use crate::names::{has_family, name_type};
+use layouts::layout::{Layout, PRINCIPAL};
+use refusals::walk::{Place, check_each};
+use terms::places::numbered;
 use theory::data::{Argument, Declared, Predicate, Slot};
 
 /// Whether a parameter is of a family: a declared name, or an earlier argument.
@@ -11,16 +14,8 @@ fn is_slot_of(names: &[Declared], earlier: &[Argument], slot: Slot, family: u8) 
     ensures { result ≡ slot_suited names.now earlier.now slot family }
 {
     match slot {
-        Slot::Name(n) => match name_type(names, n) {
-            Some(of) => of.family == family,
-            None => false,
-        },
-        Slot::Place(p) => {
-            if p == 0 || p > earlier.len() {
-                return false;
-            }
-            earlier[p - 1].family == family
-        }
+        Slot::Name(n) => has_family(name_type(names, n), family),
+        Slot::Place(p) => numbered(earlier, p).is_some_and(|argument| argument.family == family),
     }
 }
 
@@ -32,16 +27,11 @@ fn is_argument_formed<L: Layout>(
 ) -> bool
     ensures { result ≡ argument_formed (L.meaning layout.now) names.now earlier.now argument }
 {
-    if argument.family >= layout.families() {
-        return false;
-    }
-    match (argument.params, layout.parameters(argument.family)) {
-        (Params::Zero, Params::Zero) => true,
-        (Params::One(p), Params::One(f)) => is_slot_of(names, earlier, p, f),
-        (Params::Two(p, q), Params::Two(f, g)) => is_slot_of(names, earlier, p, f)
-            && is_slot_of(names, earlier, q, g),
-        _ => false,
-    }
+    is_formed_by(
+        layout,
+        argument,
+        |slot, family| is_slot_of(names, earlier, slot, family),
+    )
 }
 
 fn check_argument_types<L: Layout>(
@@ -51,12 +41,21 @@ fn check_argument_types<L: Layout>(
 ) -> Result<(), Ill>
     ensures { result ≡ arguments_formed (L.meaning layout.now) names.now arguments.now }
 {
-    for (i, argument) in arguments.iter().enumerate() {
-        if !is_argument_formed(layout, names, &arguments[0..i], *argument) {
-            return Err(Ill::Unformed);
-        }
-    }
-    Ok(())
+    // Only the reason is told of an argument, so the place that goes into the fault is left out.
+    let place = Place {
+        role: 0,
+        rule: 0,
+        before: 0,
+    };
+    check_each(
+        arguments,
+        place,
+        |earlier, argument| demand(
+            is_argument_formed(layout, names, earlier, *argument),
+            Ill::Unformed,
+        ),
+    )
+    .map_err(|fault| fault.why)
 }
 
 fn check_predicate<L: Layout>(
@@ -67,16 +66,10 @@ fn check_predicate<L: Layout>(
     ensures { result ≡ predicate_check (L.meaning layout.now) names.now arguments.now }
 {
     check_argument_types(layout, names, arguments)?;
-    match arguments {
-        [first, ..] => {
-            if first.family == 1 {
-                Ok(())
-            } else {
-                Err(Ill::NoPrincipal)
-            }
-        }
-        [] => Err(Ill::NoPrincipal),
-    }
+    let is_principal = arguments
+        .first()
+        .is_some_and(|first| first.family == PRINCIPAL);
+    demand(is_principal, Ill::NoPrincipal)
 }
 
 /// Predicates in order; the first has the spot after `base`.
@@ -90,15 +83,14 @@ pub(crate) fn check_predicates<L: Layout>(
     requires { base + length predicates.now < 2 ^ 64 }
     ensures { result ≡ predicates_check (L.meaning layout.now) names.now role base predicates.now }
 {
-    for (i, predicate) in predicates.iter().enumerate() {
-        if let Err(ill) = check_predicate(layout, names, predicate.arguments.as_slice()) {
-            return Err(TypeFault {
-                role,
-                rule: 0,
-                spot: base + (i + 1),
-                ill,
-            });
-        }
-    }
-    Ok(())
+    let place = Place {
+        role,
+        rule: 0,
+        before: base,
+    };
+    check_each(
+        predicates,
+        place,
+        |_, predicate| check_predicate(layout, names, predicate.arguments.as_slice()),
+    )
 }

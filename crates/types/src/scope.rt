@@ -1,5 +1,8 @@
-use terms::row::Row;
-use theory::data::{Declared, Predicate, Ty};
+ghost use Rattle.std.specs.Prelude.{◌≡◌, ◌++◌};
+ghost use Rattle.types.specs.Scopes.{scope_of};
+ghost use Rattle.types.specs.Rules.{setting_of, over};
+
+use theory::data::{Declared, Predicate, Theory, Ty};
 use theory::owner::Owner;
 
 /// What is declared at some point of a theory: the names, the owner, and the variables, universal
@@ -12,23 +15,26 @@ pub struct Scope<'a> {
     pub made: &'a [Ty],
 }
 
-/// The rows of a book, marked over some scope: whether all items in a row's term are declared, and
-/// whether the term has msg.
-#[derive(Clone, Copy)]
-pub struct Marked<'a> {
-    pub rows: &'a [Row],
-    pub known: &'a [bool],
-    pub message: &'a [bool],
-}
-
 /// What a rule is checked in, and its numbers.
 #[derive(Clone, Copy)]
 pub struct Setting<'a> {
-    pub names: &'a [Declared],
-    pub memory: &'a [Predicate],
+    pub theory: &'a Theory,
     pub own: &'a [Predicate],
-    pub rows: &'a [Row],
     pub owner: Owner,
     pub role: usize,
     pub rule: usize,
+}
+
+impl<'a> Setting<'a> {
+    /// The names and the owner, and these variables.
+    pub(crate) fn scope(self, universal: &'a [Ty], made: &'a [Ty]) -> Scope<'a>
+        ensures { scope_of result ≡ over (setting_of self.entry) (universal.now ++ made.now) }
+    {
+        Scope {
+            names: self.theory.names.as_slice(),
+            owner: self.owner,
+            universal,
+            made,
+        }
+    }
 }

@@ -11,7 +11,7 @@ pub returns-in_err-check_rules_of : goal.returns-in_err-check_rules_of
 returns-in_err-check_rules_of g c =
     let lay = g.L.Layout.meaning c.args.layout.now in
     let T = c.args.theory.now in
-    let tables : tables_check T [] ≡ pass = sym (c.in_ok-check_tables.ensures ∙ ap (tables_check T) c.default.ensures) in
+    let tables : tables_check T [] ≡ pass = sym c.in_ok-check_tables.ensures in
     let types : theory_check lay T ≡ pass = sym c.in_ok-check_types.ensures.answer in
     let typed : TheoryTyped lay T = c.in_ok-check_types.ensures.judged.holds refl in
     let f = err_from_is_err_and c.from_residual-in_err-check_rules_of.result c.from_residual-in_err-check_rules_of.ensures.1 in
@@ -24,7 +24,7 @@ pub returns : goal.returns
 returns g c =
     let lay = g.L.Layout.meaning c.args.layout.now in
     let T = c.args.theory.now in
-    let tables : tables_check T [] ≡ pass = sym (c.in_ok-check_tables.ensures ∙ ap (tables_check T) c.default.ensures) in
+    let tables : tables_check T [] ≡ pass = sym c.in_ok-check_tables.ensures in
     let types : theory_check lay T ≡ pass = sym c.in_ok-check_types.ensures.answer in
     let typed : TheoryTyped lay T = c.in_ok-check_types.ensures.judged.holds refl in
     record {

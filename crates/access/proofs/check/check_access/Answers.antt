@@ -9,7 +9,7 @@ pub returns-in_err-check_rules_of : goal.returns-in_err-check_rules_of
 returns-in_err-check_rules_of g c =
     let lay = g.L.Layout.meaning c.args.layout.now in
     let T = c.args.theory.now in
-    let tables : tables_check T [] ≡ pass = sym (c.in_ok-check_tables.ensures ∙ ap (tables_check T) c.default.ensures) in
+    let tables : tables_check T [] ≡ pass = sym c.in_ok-check_tables.ensures in
     let f = err_from_is_err_and c.from_residual-in_err-check_rules_of.result c.from_residual-in_err-check_rules_of.ensures.1 in
     record {
       answer = access_answered lay T tables (Err c.in_err-check_rules_of.field-0.0) c.in_err-check_rules_of.ensures _ (f.1 ∙ ap Err f.2);
@@ -20,7 +20,7 @@ pub returns : goal.returns
 returns g c =
     let lay = g.L.Layout.meaning c.args.layout.now in
     let T = c.args.theory.now in
-    let tables : tables_check T [] ≡ pass = sym (c.in_ok-check_tables.ensures ∙ ap (tables_check T) c.default.ensures) in
+    let tables : tables_check T [] ≡ pass = sym c.in_ok-check_tables.ensures in
     record {
       answer = access_answered lay T tables (Ok (tt {0})) c.in_ok-check_rules_of.ensures (Ok (tt {0})) refl;
       judged = access_passes lay T tables (Ok (tt {0})) c.in_ok-check_rules_of.ensures (Ok (tt {0})) refl;

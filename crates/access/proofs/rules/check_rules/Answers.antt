@@ -7,11 +7,8 @@ use Rattle.access.specs.Places.{setting_of}
 use Rattle.access.proofs.Leading.{in_place, place_of_next, leads_more, leads_stop, leads_all}
 use Rattle.access.proofs.rules.check_rules.Goals as goal
 
-pub loop-i-init : goal.loop-i-init
-loop-i-init g c = λ r h. h
-
 pub check_rule-requires : goal.check_rule-requires
-check_rule-requires g c = record { names = c.requires.names; tabled = c.requires.tabled _ (in_place c.args.rules.now c.loop-i.i c.index-rules-i.result c.loop-i-test.true c.index-rules-i.is) }
+check_rule-requires g c = c.requires _ (in_place c.args.rules.now c.loop-i.i c.index-rules-i.result c.loop-i-test.true c.index-rules-i.is)
 
 pub returns-in_err-check_rule : goal.returns-in_err-check_rule
 returns-in_err-check_rule g c =

@@ -1,12 +1,10 @@
-use Rattle.std.proofs.Common.{sym, ◌∙◌}
-use Rattle.script.proofs.Silence.{silent_here, silent_more, silent_all}
+use Rattle.std.proofs.Common.{eqb, not, rules, tests}
+use Rattle.std.proofs.lemmas.Iterator.{YieldsList-from_slice}
+use Rattle.std.proofs.lemmas.Iterator.Search.{find_from_yields_List}
+use Rattle.script.proofs.Silence.{silent_by}
 use Rattle.script.proofs.command.begins_silent.Goals as goal
 
-pub returns-then-byte-ne32 : goal.returns-then-byte-ne32
-returns-then-byte-ne32 c = sym (silent_here c.args.line.now c.loop-byte.byte-index c.loop-byte-test.true c.if-byte-ne32.true) ∙ c.loop-byte.invariant
-
-pub loop-byte-preserved : goal.loop-byte-preserved
-loop-byte-preserved c = silent_more c.args.line.now c.loop-byte.byte-index c.loop-byte-test.true c.if-byte-ne32.false ∙ c.loop-byte.invariant
-
 pub returns : goal.returns
-returns c = sym (silent_all c.args.line.now c.loop-byte.byte-index c.loop-byte-test.false) ∙ c.loop-byte.invariant
+returns c =
+    let found = find_from_yields_List (λ b. not (eqb b 32)) _ _ c.find.result c.find.ensures.ran (YieldsList-from_slice c.args.line.now cc) (λ x b q k. search (rules, tests)) in
+    silent_by c.args.line.now c.find.result c.is_none_or.result c.is_none_or.ensures (λ x k. search (rules, tests)) found

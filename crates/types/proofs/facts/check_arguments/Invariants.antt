@@ -1,10 +1,10 @@
-use Rattle.std.proofs.Common.{◌≡◌, drop}
+use Rattle.std.proofs.Common.{◌≡◌, length, drop}
 use Rattle.types.specs.Scopes.{scope_of}
 use Rattle.types.specs.Facts.{ledger_of, arguments_check}
 use Rattle.types.proofs.facts.check_arguments.Given as goal
 
-abbrev pub invariant-loop-i : goal.invariant-loop-i
-invariant-loop-i l =
-    let s = scope_of l.scope in
-    let b = ledger_of l.book in
-    arguments_check s b l.args (drop l.i l.args) (drop l.i l.takes) ≡ arguments_check s b l.args l.args l.takes
+abbrev pub invariant-loop-k : goal.invariant-loop-k
+invariant-loop-k l =
+    let s = scope_of l.marked.scope in
+    let b = ledger_of l.marked in
+    arguments_check s b l.args (drop (length l.yielded) l.args) (drop (length l.yielded) l.takes) ≡ arguments_check s b l.args l.args l.takes

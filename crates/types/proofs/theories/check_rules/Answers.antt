@@ -5,7 +5,7 @@ use Rattle.layouts.specs.Meanings.{Meaning}
 use Rattle.types.specs.Rules.{Place, setting_of, rule_check}
 use Rattle.types.specs.Theories.{here, numbered, numbered_check}
 use Rattle.theory.specs.declared.data.Rule.{Rule}
-use Rattle.refusals.proofs.Walking.{walk_here_own, walk_later_own, walk_none}
+use Rattle.refusals.proofs.Walking.{walk_here_own, walk_later_own}
 use Rattle.types.proofs.theories.check_rules.Goals as goal
 
 -- the rule's number is its place
@@ -28,9 +28,3 @@ loop-i-preserved g c =
     let e = setting_of c.args.setting in
     walk_later_own (numbered_check lay e) here c.args.rules.now c.loop-i.i _ _ c.index-rules-i.result c.loop-i-test.true refl c.index-rules-i.is c.loop-i.invariant _
     (c.in_ok-check_rule.ensures ∙ at_place lay e c.args.rules.now c.index-rules-i.result c.loop-i.i c.loop-i-test.true)
-
-pub returns : goal.returns
-returns g c =
-    let lay = g.L.Layout.meaning c.args.layout.now in
-    let e = setting_of c.args.setting in
-    sym (walk_none (numbered_check lay e) here c.args.rules.now c.loop-i.i c.loop-i-test.false) ∙ c.loop-i.invariant

@@ -1,0 +1,78 @@
+ghost use Rattle.std.specs.Prelude.{◌≡◌, ◌+◌, ◌<◌, ◌≤◌, ◌++◌, map, length};
+ghost use Rattle.access.specs.Scopes.{name_entry, owner_entries, variable_entry, variable_entries, rule_scope, entries_of};
+
+use crate::scope::Scope;
+use crate::setting::Names;
+use layouts::layout::PRINCIPAL;
+use reading::scope::Entry;
+use terms::row::Item;
+use theory::data::{Declared, Ty};
+use theory::owner::Owner;
+use types::forms::{plain, read_type};
+
+fn name_entry(owner: Owner, declared: Declared) -> Entry
+    ensures { result ≡ name_entry owner declared }
+{
+    Entry {
+        item: Item::Name(declared.name),
+        of: read_type(owner, declared.of),
+    }
+}
+
+fn variable_entry(owner: Owner, variable: u8, of: Ty) -> Entry
+    ensures { result ≡ variable_entry owner variable of }
+{
+    Entry {
+        item: Item::Variable(variable),
+        of: read_type(owner, of),
+    }
+}
+
+/// The declared names.
+fn add_names(scope: &mut Scope, owner: Owner, names: &[Declared])
+    requires { scope.old.len + length names.now ≤ 144 }
+    ensures items { entries_of scope.new ≡ entries_of scope.old ++ map (name_entry owner) names.now }
+    ensures len { scope.new.len ≡ scope.old.len + length names.now }
+{
+    for declared in names {
+        scope.push(name_entry(owner, *declared));
+    }
+}
+
+/// The owner, where it is a variable.
+fn add_owner(scope: &mut Scope, owner: Owner)
+    requires { scope.old.len < 144 }
+    ensures items { entries_of scope.new ≡ entries_of scope.old ++ owner_entries owner }
+    ensures len { scope.new.len ≡ scope.old.len + length (owner_entries owner) }
+{
+    if let Owner::Generic = owner {
+        scope.push(Entry {
+            item: Item::Variable(0),
+            of: plain(PRINCIPAL),
+        });
+    }
+}
+
+/// The universal variables, from 1.
+fn add_variables(scope: &mut Scope, owner: Owner, variables: &[Ty])
+    requires room { scope.old.len + length variables.now ≤ 144 }
+    requires few { length variables.now ≤ 15 }
+    ensures items { entries_of scope.new ≡ entries_of scope.old ++ variable_entries owner 1 variables.now }
+    ensures len { scope.new.len ≡ scope.old.len + length variables.now }
+{
+    for (i, of) in variables.iter().enumerate() {
+        scope.push(variable_entry(owner, (i + 1) as u8, *of));
+    }
+}
+
+/// What is declared before a rule's made variables, as the owner reads it.
+pub(crate) fn rule_scope(names: Names, owner: Owner, universal: &[Ty]) -> Scope
+    requires { length universal.now ≤ 15 }
+    ensures { entries_of result ≡ rule_scope names.entry.declared.now owner universal.now }
+{
+    let mut scope = Scope::new();
+    add_names(&mut scope, owner, names.declared);
+    add_owner(&mut scope, owner);
+    add_variables(&mut scope, owner, universal);
+    scope
+}

@@ -1,2 +1,0 @@
-pub mod Totals
-pub mod There
