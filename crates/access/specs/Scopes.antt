@@ -1,5 +1,5 @@
 -- The scope in which a rule is read: names, the owner, universal variables.
-use Rattle.std.specs.Prelude.{ℕ, ◌+◌, List, [], ◌∷◌, ◌++◌, map, take}
+use Rattle.std.specs.Prelude.{ℕ, ◌+◌, List, [], ◌∷◌, ◌++◌, map}
 use Rattle.reading.specs.declared.scope.Entry.{Entry}
 use Rattle.terms.specs.declared.row.Item.TheVariants.{Name, Variable}
 use Rattle.theory.specs.declared.data.Declared.{Declared}
@@ -8,7 +8,6 @@ use Rattle.theory.specs.declared.owner.Owner.{Owner}
 use Rattle.theory.specs.declared.owner.Owner.TheVariants.{Nobody, Generic, Anchored}
 use Rattle.types.specs.Forms.{read_type}
 use Rattle.types.specs.Scopes.{a_principal}
-use Rattle.access.specs.declared.scope.Scope.{Scope}
 
 abbrev pub name_entry : Owner → Declared → Entry
 name_entry o d = record { item = Name d.name; of = read_type o d.of }
@@ -29,6 +28,3 @@ variable_entries o v (T ∷ Ts) = variable_entry o v T ∷ variable_entries o (v
 
 abbrev pub rule_scope : List Declared → Owner → List Ty → List Entry
 rule_scope ds o us = (map (name_entry o) ds ++ owner_entries o) ++ variable_entries o 1 us
-
-abbrev pub entries_of : Scope → List Entry
-entries_of s = take s.len s.entries

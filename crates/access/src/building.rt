@@ -9,7 +9,7 @@ use crate::faults::{AccessFault, Denied};
 use crate::setting::Setting;
 use layouts::layout::Layout;
 use refusals::fault::Fault;
-use refusals::walk::check_each;
+use refusals::walk::{check_each, demand};
 use terms::book::Book;
 use terms::book::marking::Marks;
 use terms::places::at;
@@ -51,11 +51,7 @@ pub(crate) fn check_made<L: Layout>(
     ensures { result ≡ all_made_check (L.meaning layout.now) (setting_of setting.entry) base made.now }
 {
     check_each(made, setting.after(base), |_, of| {
-        if layout.may_be_made(of.family) {
-            Ok(())
-        } else {
-            Err(Denied::NotMakeable)
-        }
+        demand(layout.may_be_made(of.family), Denied::NotMakeable)
     })
 }
 

@@ -1,14 +1,17 @@
 ghost use Rattle.std.specs.Prelude.{◌≡◌, ◌+◌, ◌<◌, ◌≤◌, ◌++◌, map, length};
-ghost use Rattle.access.specs.Scopes.{name_entry, owner_entries, variable_entry, variable_entries, rule_scope, entries_of};
+ghost use Rattle.access.specs.Scopes.{name_entry, owner_entries, variable_entry, variable_entries, rule_scope};
 
-use crate::scope::Scope;
 use crate::setting::Names;
+use arrayvec::ArrayVec;
 use layouts::layout::PRINCIPAL;
-use reading::scope::Entry;
+use reading::scope::{Entry, MAX_DECLARED};
 use terms::row::Item;
 use theory::data::{Declared, Ty};
 use theory::owner::Owner;
 use types::forms::{plain, read_type};
+
+/// The items declared where a rule is read.
+pub(crate) type Scope = ArrayVec<Entry, MAX_DECLARED>;
 
 fn name_entry(owner: Owner, declared: Declared) -> Entry
     ensures { result ≡ name_entry owner declared }
@@ -30,9 +33,8 @@ fn variable_entry(owner: Owner, variable: u8, of: Ty) -> Entry
 
 /// The declared names.
 fn add_names(scope: &mut Scope, owner: Owner, names: &[Declared])
-    requires { scope.old.len + length names.now ≤ 144 }
-    ensures items { entries_of scope.new ≡ entries_of scope.old ++ map (name_entry owner) names.now }
-    ensures len { scope.new.len ≡ scope.old.len + length names.now }
+    requires { length scope.old.items + length names.now ≤ 144 }
+    ensures { scope.new.items ≡ scope.old.items ++ map (name_entry owner) names.now }
 {
     for declared in names {
         scope.push(name_entry(owner, *declared));
@@ -41,9 +43,8 @@ fn add_names(scope: &mut Scope, owner: Owner, names: &[Declared])
 
 /// The owner, where it is a variable.
 fn add_owner(scope: &mut Scope, owner: Owner)
-    requires { scope.old.len < 144 }
-    ensures items { entries_of scope.new ≡ entries_of scope.old ++ owner_entries owner }
-    ensures len { scope.new.len ≡ scope.old.len + length (owner_entries owner) }
+    requires { length scope.old.items < 144 }
+    ensures { scope.new.items ≡ scope.old.items ++ owner_entries owner }
 {
     if let Owner::Generic = owner {
         scope.push(Entry {
@@ -55,10 +56,9 @@ fn add_owner(scope: &mut Scope, owner: Owner)
 
 /// The universal variables, from 1.
 fn add_variables(scope: &mut Scope, owner: Owner, variables: &[Ty])
-    requires room { scope.old.len + length variables.now ≤ 144 }
+    requires room { length scope.old.items + length variables.now ≤ 144 }
     requires few { length variables.now ≤ 15 }
-    ensures items { entries_of scope.new ≡ entries_of scope.old ++ variable_entries owner 1 variables.now }
-    ensures len { scope.new.len ≡ scope.old.len + length variables.now }
+    ensures { scope.new.items ≡ scope.old.items ++ variable_entries owner 1 variables.now }
 {
     for (i, of) in variables.iter().enumerate() {
         scope.push(variable_entry(owner, (i + 1) as u8, *of));
@@ -68,7 +68,7 @@ fn add_variables(scope: &mut Scope, owner: Owner, variables: &[Ty])
 /// What is declared before a rule's made variables, as the owner reads it.
 pub(crate) fn rule_scope(names: Names, owner: Owner, universal: &[Ty]) -> Scope
     requires { length universal.now ≤ 15 }
-    ensures { entries_of result ≡ rule_scope names.entry.declared.now owner universal.now }
+    ensures { result.items ≡ rule_scope names.entry.declared.now owner universal.now }
 {
     let mut scope = Scope::new();
     add_names(&mut scope, owner, names.declared);

@@ -8,5 +8,4 @@ mod entries;
 pub mod faults;
 mod owners;
 mod rules;
-mod scope;
 mod setting;

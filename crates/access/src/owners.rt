@@ -6,7 +6,7 @@ ghost use Rattle.access.specs.Tests.{is_owner, begins, owned, owners_check};
 
 use crate::faults::{AccessFault, Denied};
 use crate::setting::Setting;
-use refusals::walk::check_each;
+use refusals::walk::{check_each, demand};
 use terms::row::{Item, Row};
 use theory::data::{Fact, Symbol};
 
@@ -49,10 +49,6 @@ pub(crate) fn check_owners(setting: Setting, facts: &[Fact], base: usize) -> Res
     ensures { result ≡ owners_check (setting_of setting.entry) base facts.now }
 {
     check_each(facts, setting.after(base), |_, fact| {
-        if setting.is_owned(fact) {
-            Ok(())
-        } else {
-            Err(Denied::NotOwner)
-        }
+        demand(setting.is_owned(fact), Denied::NotOwner)
     })
 }

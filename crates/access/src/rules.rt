@@ -57,7 +57,7 @@ fn check_rule<L: Layout>(layout: &L, setting: Setting, rule: &Rule) -> Result<()
     let scope = rule_scope(setting.names, setting.owner, rule.universal.as_slice());
     let Some(reading) = read_left(layout, setting.book, scope.as_slice(), setting.owner, left)
     else {
-        unreachable()
+        unreachable!()
     };
     check_reading(layout, setting, rule, &reading)
 }
@@ -67,6 +67,7 @@ fn check_rules<L: Layout>(layout: &L, setting: Setting, rules: &[Rule]) -> Resul
     requires { RulesTabled (length (rows_of setting.book.now)) rules.now }
     ensures { First (rules_lines (L.meaning layout.now) (setting_of setting.entry) rules.now) result }
 {
+    // No `check_numbered`: what is promised here is the first demand that is not met, and no walk.
     for (i, rule) in rules.iter().enumerate() {
         let here = Setting {
             rule: i + 1,
@@ -87,6 +88,7 @@ pub(crate) fn check_roles<'x, L: Layout>(
     requires { RolesTabled (length (rows_of book.now)) roles.now }
     ensures { First (roles_lines (L.meaning layout.now) names.entry.declared.now (rows_of book.now) roles.now) result }
 {
+    // No `check_numbered`, as for rules.
     for (i, role) in roles.iter().enumerate() {
         let setting = Setting {
             names,

@@ -9,8 +9,9 @@ pub const MSG: u8 = 0;
 pub const PRINCIPAL: u8 = 1;
 
 /// The parameters of a type, each told by a `P`: of a family by families, of a type by items.
-#[derive(Clone, Copy, PartialEq, Eq)]
+#[derive(Clone, Copy, PartialEq, Eq, Default)]
 pub enum Params<P> {
+    #[default]
     Zero,
     One(P),
     Two(P, P),

@@ -6,7 +6,7 @@ pub mod any;
 pub mod counter;
 pub mod drawing;
 pub mod faults;
-pub mod lists;
+mod lists;
 pub mod roll;
 pub mod source;
 pub mod withholding;

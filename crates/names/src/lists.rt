@@ -1,12 +1,4 @@
 ghost use Rattle.std.specs.Prelude.{◌≡◌, ◌≤◌, length, vec_capacity};
-ghost use Rattle.names.specs.Sets.{listed};
-
-/// Whether a number is in a list.
-pub fn is_listed(numbers: &[u32], number: u32) -> bool
-    ensures { result ≡ listed numbers.now number }
-{
-    numbers.contains(&number)
-}
 
 /// Puts the numbers in the place of those of a list that has memory for them.
 pub(crate) fn refill(list: &mut Vec<u32>, numbers: &[u32])

@@ -10,6 +10,7 @@ pub(crate) const MAX_NAMES: usize = 512;
 /// A list of names that is read in order. It has memory for 512 names from the start.
 #[derive(Drop)]
 pub struct Roll {
+    // No `ArrayVec`: `new` promises to answer want of memory.
     /// The names still to be read, the next one last.
     left: Vec<u32>,
     ghost room: { 512 ≤ vec_capacity left },

@@ -16,6 +16,7 @@ pub(crate) const MAX_WITHHELD: usize = 32;
 #[derive(Drop)]
 pub struct Withholding<S> {
     pub(crate) below: S,
+    // No `ArrayVec`: `new` promises to answer want of memory, and to give the source back.
     withheld: Vec<u32>,
     ghost few: { vec_len withheld ≤ 32 },
     ghost room: { 32 ≤ vec_capacity withheld },
@@ -77,6 +78,8 @@ impl<S: Source> Source for Withholding<S> {
     }
 
     fn draw(&mut self) -> Option<u32> {
+        // A loop: a chain would draw through a closure that changes what it borrows, of which a proof
+        // knows nothing.
         while let Some(name) = self.below.draw() {
             if !self.withheld.contains(&name) {
                 return Some(name);

@@ -45,12 +45,11 @@ pub(crate) fn lowest_rows(owner: Owner, book: &Book) -> Numbers
 {
     let rows = book.rows();
     let mut low = Numbers::new();
-    // `Row` has no default, so an `ArrayVec` of them would hold `Option<Row>`, each of them `Some`.
-    let mut seen = [Row::Pair(0, 0); MAX_ROWS];
-    for (i, row) in rows.iter().enumerate() {
+    let mut seen: ArrayVec<Row, MAX_ROWS> = ArrayVec::new();
+    for row in rows {
         let sought = reduce(owner, low.as_slice(), *row);
-        low.push(number_in(&seen[0..i], sought));
-        seen[i] = sought;
+        low.push(number_in(seen.as_slice(), sought));
+        seen.push(sought);
     }
     low
 }

@@ -2,7 +2,7 @@ use terms::row::Item;
 use theory::data::Ty;
 
 /// A declared item with its type, as the owner of a role reads them.
-#[derive(Clone, Copy)]
+#[derive(Clone, Copy, Default)]
 pub struct Entry {
     pub item: Item,
     pub of: Ty,

@@ -1,5 +1,5 @@
 -- Faults: their six numbers, where they are told, and walks by a check that the code is given.
-use Rattle.std.specs.Prelude.{◌≡◌, ℕ, ◌+◌, List, []}
+use Rattle.std.specs.Prelude.{◌≡◌, ℕ, ◌+◌, List, [], length}
 use Rattle.std.specs.Borrow.{Bor}
 use Rattle.refusals.specs.Walks.{Answer, walk}
 use Rattle.refusals.specs.declared.Refusal.{Refusal}
@@ -21,3 +21,11 @@ Says call check = (seen : _) (x : _) (r : _) → call seen x r → r ≡ check s
 -- The answer is that of the walk by the check that the calls make.
 abbrev pub Walked : {X W : Type 0} → (Bor (List X) → Bor X → Answer W → Type 0) → Place → List X → Answer (Fault W) → Type 0
 Walked call p xs r = (check : _) → Says call check → r ≡ walk check (at_spot p.role p.rule p.before) [] xs
+
+-- Whatever the call may answer is what the check says of the element with that number.
+abbrev pub SaysByNumber : {X W : Type 0} → (ℕ → Bor X → Answer W → Type 0) → (List X → X → Answer W) → Type 0
+SaysByNumber call check = (seen : _) (x : _) (r : _) → call (length seen + 1) x r → r ≡ check seen x.now
+
+-- The answer is that of the walk by the check that the calls make.
+abbrev pub WalkedByNumber : {X W : Type 0} → (ℕ → Bor X → Answer W → Type 0) → List X → Answer W → Type 0
+WalkedByNumber call xs r = (check : _) → SaysByNumber call check → r ≡ walk check (λ n w. w) [] xs

@@ -1,5 +1,6 @@
 ghost use Rattle.std.specs.Prelude.{◌≡◌, ◌+◌, ◌^◌, ◌<◌, length};
-ghost use Rattle.refusals.specs.Faults.{Walked};
+ghost use Rattle.refusals.specs.Faults.{Walked, WalkedByNumber};
+ghost use Rattle.refusals.specs.Walks.{pass, demand};
 
 use crate::fault::Fault;
 
@@ -10,6 +11,13 @@ pub struct Place {
     pub role: usize,
     pub rule: usize,
     pub before: usize,
+}
+
+/// The reason, unless the demand holds.
+pub fn demand<W: Drop>(holds: bool, why: W) -> Result<(), W>
+    ensures { result ≡ demand holds why pass }
+{
+    holds.then_some(()).ok_or(why)
 }
 
 /// Checks the elements one after the other, each told those before it; the first fault is told with
@@ -32,6 +40,21 @@ pub fn check_each<T, W, F: Fn(&[T], &T) -> Result<(), W>>(
                 why,
             });
         }
+    }
+    Ok(())
+}
+
+/// Checks the elements one after the other, each told its number, counted from 1; the first fault
+/// is the answer.
+pub fn check_numbered<T, W, F: Fn(usize, &T) -> Result<(), W>>(
+    items: &[T],
+    check: F,
+) -> Result<(), W>
+    requires { F.IsAlwaysCallable check }
+    ensures { WalkedByNumber (F.post check) items.now result }
+{
+    for (i, item) in items.iter().enumerate() {
+        check(i + 1, item)?;
     }
     Ok(())
 }

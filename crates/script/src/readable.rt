@@ -16,6 +16,8 @@ pub(crate) trait Readable: Sized + Drop {
         ensures { result ≡ reads word.now };
 }
 
+// An impl for each width of number, since each has a definition of its own.
+
 /// A family, or a variable, by its number.
 impl Readable for u8 {
     ghost reads = { number_up_to 255 };

@@ -14,6 +14,7 @@ pub enum Item {
 }
 
 /// A row of a book, which stands for a term. Rows are told by their numbers, counted from 1.
+// Numbers of rows, and no boxed parts: scripts and rules tell rows by number, and no two are equal.
 #[derive(Clone, Copy, PartialEq, Eq)]
 pub enum Row {
     Item(Item),
@@ -23,6 +24,20 @@ pub enum Row {
     Seal { content: usize, key: usize },
     /// A row encrypted under a public key: the content, and the key, which is an item.
     Lock { content: usize, key: usize },
+}
+
+/// Name 0, which is in no book: what an unused place of a list has.
+impl Default for Item {
+    fn default() -> Item {
+        Item::Name(0)
+    }
+}
+
+/// The row of no item, which is in no book: what an unused place of a list has.
+impl Default for Row {
+    fn default() -> Row {
+        Row::Item(Item::default())
+    }
 }
 
 impl Row {

@@ -1,6 +1,5 @@
 pub mod Data
 pub mod Faults
-pub mod Numbering
 pub mod Counts
 pub mod Missing
 pub mod Owners

@@ -3,7 +3,7 @@ ghost use Rattle.theory.specs.Counts.{count_check, predicates_counts, rule_count
 
 use crate::data::{Fact, Predicate, Role, Rule, Theory};
 use crate::faults::{Flaw, TableFault};
-use crate::numbered::check_numbered;
+use refusals::walk::check_numbered;
 
 // The limits, each as the definitions have it.
 const MAX_NAMES: usize = 128;

@@ -3,7 +3,7 @@ use terms::book::Book;
 use terms::row::Item;
 
 /// A type: a family of the layout, and its parameters, which are items.
-#[derive(Clone, Copy, PartialEq, Eq)]
+#[derive(Clone, Copy, PartialEq, Eq, Default)]
 pub struct Ty<P = Item> {
     pub family: u8,
     pub params: Params<P>,

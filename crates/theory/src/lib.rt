@@ -5,7 +5,6 @@ mod counts;
 pub mod data;
 pub mod faults;
 mod missing;
-mod numbered;
 pub mod owner;
 pub mod tables;
 

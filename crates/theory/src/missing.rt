@@ -3,9 +3,8 @@ ghost use Rattle.theory.specs.Missing.{slot_there, slots_there, arguments_there,
 
 use crate::data::{Argument, Fact, Predicate, Role, Rule, Slot, Symbol, Theory};
 use crate::faults::{Flaw, TableFault};
-use crate::numbered::check_numbered;
 use layouts::layout::Params;
-use refusals::walk::{Place, check_each};
+use refusals::walk::{Place, check_each, check_numbered, demand};
 use terms::places::is_number;
 
 /// Whether the parameter is a name or an earlier place.
@@ -51,9 +50,10 @@ fn check_predicates(predicates: &[Predicate], role: usize, before: usize) -> Res
         before,
     };
     check_each(predicates, place, |_, predicate| {
-        are_arguments_there(predicate.arguments.as_slice())
-            .then_some(())
-            .ok_or(Flaw::Missing)
+        demand(
+            are_arguments_there(predicate.arguments.as_slice()),
+            Flaw::Missing,
+        )
     })
 }
 
@@ -118,7 +118,7 @@ impl Sizes {
         ensures { result ≡ facts_missing self place.role place.rule place.before facts.now }
     {
         check_each(facts, place, |_, fact| {
-            self.has(fact).then_some(()).ok_or(Flaw::Missing)
+            demand(self.has(fact), Flaw::Missing)
         })
     }
 

@@ -3,9 +3,10 @@ ghost use Rattle.terms.specs.Held.{rows_of};
 ghost use Rattle.types.specs.Scopes.{scope_of};
 ghost use Rattle.types.specs.Facts.{ledger_of, slot_item, argument_type, arguments_check, fact_check};
 
-use crate::faults::{Ill, demand};
+use crate::faults::Ill;
 use crate::forms::map_params;
 use crate::marked::Marked;
+use refusals::walk::demand;
 use terms::book::Book;
 use terms::places::at;
 use terms::row::{Item, Row};

@@ -1,5 +1,4 @@
-ghost use Rattle.std.specs.Prelude.{◌≡◌, Some};
-ghost use Rattle.refusals.specs.Walks.{demand, pass};
+ghost use Rattle.std.specs.Prelude.{Some};
 ghost use Rattle.types.specs.Demands.{number_of, row_of};
 ghost use Rattle.types.specs.Reasons.{reason_of};
 
@@ -70,11 +69,4 @@ impl fmt::Display for Ill {
             Ill::Lacks(_) => "a term lacks the type of its argument",
         })
     }
-}
-
-/// Refuses where what is demanded is not met.
-pub(crate) fn demand(is_met: bool, why: Ill) -> Result<(), Ill>
-    ensures { result ≡ demand is_met why pass }
-{
-    is_met.then_some(()).ok_or(why)
 }

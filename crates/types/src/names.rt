@@ -6,10 +6,11 @@ ghost use Rattle.types.specs.Judged.{context_of};
 ghost use Rattle.refusals.specs.Decides.{Passes};
 ghost use Rattle.judgments.specs.Typing.{Formed};
 
-use crate::faults::{Ill, TypeFault, demand};
+use crate::faults::{Ill, TypeFault};
 use crate::forms::{is_formed_by, plain};
 use crate::scope::Scope;
 use layouts::layout::{Layout, PRINCIPAL};
+use refusals::walk::demand;
 use terms::row::Item;
 use theory::data::{Declared, Ty};
 use theory::owner::Owner;

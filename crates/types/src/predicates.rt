@@ -1,11 +1,11 @@
 ghost use Rattle.std.specs.Prelude.{◌≡◌, ◌+◌, ◌^◌, ◌<◌, length};
 ghost use Rattle.types.specs.Predicates.{slot_suited, argument_formed, arguments_formed, predicate_check, predicates_check};
 
-use crate::faults::{Ill, TypeFault, demand};
+use crate::faults::{Ill, TypeFault};
 use crate::forms::is_formed_by;
 use crate::names::{has_family, name_type};
 use layouts::layout::{Layout, PRINCIPAL};
-use refusals::walk::{Place, check_each};
+use refusals::walk::{Place, check_each, demand};
 use terms::places::numbered;
 use theory::data::{Argument, Declared, Predicate, Slot};
 

@@ -4,13 +4,13 @@ ghost use Rattle.types.specs.Facts.{ledger_of};
 ghost use Rattle.types.specs.Rules.{setting_of, listed_fact, predicate_at, symbol_check, facts_with, variables_check, facts_check, rule_check};
 
 use crate::facts::check_fact;
-use crate::faults::{Ill, TypeFault, demand};
+use crate::faults::{Ill, TypeFault};
 use crate::forms::plain;
 use crate::marked::Marked;
 use crate::names::is_formed;
 use crate::scope::Setting;
 use layouts::layout::{Layout, MSG};
-use refusals::walk::{Place, check_each};
+use refusals::walk::{Place, check_each, demand};
 use terms::places::numbered;
 use theory::data::{Fact, Predicate, Rule, Symbol, Ty};
 

@@ -11,6 +11,7 @@ use theory::owner::Owner;
 pub struct Scope<'a> {
     pub names: &'a [Declared],
     pub owner: Owner,
+    // Two slices, since a rule has its universal and its made variables in two lists.
     pub universal: &'a [Ty],
     pub made: &'a [Ty],
 }

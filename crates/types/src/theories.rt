@@ -13,6 +13,7 @@ use crate::predicates::check_predicates;
 use crate::rules::check_rule;
 use crate::scope::Setting;
 use layouts::layout::{Layout, PRINCIPAL};
+use refusals::walk::check_numbered;
 use theory::data::{Declared, Role, Rule, Theory};
 use theory::owner::Owner;
 
@@ -24,15 +25,13 @@ fn check_rules<'x, L: Layout>(
 ) -> Result<(), TypeFault>
     ensures { result ≡ rules_check (L.meaning layout.now) (setting_of setting.entry) rules.now }
 {
-    // Not by `check_each`: a rule's fault is told with its place already.
-    for (i, rule) in rules.iter().enumerate() {
+    check_numbered(rules, |number, rule| {
         let here = Setting {
-            rule: i + 1,
+            rule: number,
             ..setting
         };
-        check_rule(layout, here, rule)?;
-    }
-    Ok(())
+        check_rule(layout, here, rule)
+    })
 }
 
 /// An anchor is a declared principal.
@@ -77,11 +76,10 @@ fn check_role<L: Layout>(
 fn check_roles<L: Layout>(layout: &L, theory: &Theory) -> Result<(), TypeFault>
     ensures { result ≡ roles_check (L.meaning layout.now) (vec_items theory.now.names) (vec_items theory.now.memory) (rows_of theory.now.book) (vec_items theory.now.roles) }
 {
-    // Not by `check_each`: a role's fault is told with its place already.
-    for (i, role) in theory.roles.iter().enumerate() {
-        check_role(layout, theory, i + 1, role)?;
-    }
-    Ok(())
+    check_numbered(
+        theory.roles.as_slice(),
+        |number, role| check_role(layout, theory, number, role),
+    )
 }
 
 /// The signature, the memory predicates, then role after role.

@@ -36,7 +36,7 @@ returns g c =
     let p = parts_of c.args.rule.now in
     let held = c.in-Some.reading.held.items in
     let closed = c.in-Some.reading.closed.items in
-    let scope = c.as_slice-3.ensures ∙ c.rule_scope-scope.ensures ∙ ap (rule_scope e.names e.owner) c.as_slice-2.ensures.value in
+    let scope = c.as_slice-3.ensures.value ∙ c.rule_scope-scope.ensures ∙ ap (rule_scope e.names e.owner) c.as_slice-2.ensures.value in
     let told = subst₂ (λ scope fs. Told lay (context scope) e.owner e.rows (left_terms e.owner e.rows fs) held closed) scope c.as_slice-left.ensures.value c.in-Some.ensures in
     goes_on lay e c.args.setting.book.now.sound p c.requires held closed _ _ _ (c.in_ok-check_owners.ensures ∙ ap (owners_check e 0) c.as_slice-left.ensures.value)
     (c.in_ok-check_owners-2.ensures ∙ ap₂ (owners_check e) (ap length c.as_slice-left.ensures.value) c.as_slice.ensures.value) told c.check_reading.ensures

@@ -1,6 +1,9 @@
-use Rattle.std.proofs.Common.{◌≡◌, length, take, drop}
+use Rattle.std.proofs.Common.{◌≡◌, length, drop}
 use Rattle.reading.specs.Lows.{lowered, lows}
 use Rattle.reading.proofs.lows.lowest_rows.Given as goal
 
-abbrev pub invariant-loop-i : goal.invariant-loop-i
-invariant-loop-i l = (length l.low.items ≡ l.i) × (length l.seen ≡ 512) × (lowered l.owner (take l.i l.seen) l.low.items (drop l.i l.rows) ≡ lows l.owner l.rows)
+abbrev pub invariant-loop-row : goal.invariant-loop-row
+invariant-loop-row l =
+    (length l.low.items ≡ l.row-index)
+    × (length l.seen.items ≡ l.row-index)
+    × (lowered l.owner l.seen.items l.low.items (drop l.row-index l.rows) ≡ lows l.owner l.rows)

@@ -4,8 +4,8 @@ use Rattle.std.proofs.lemmas.Result.{err_from_is_err_and}
 use Rattle.std.specs.Borrow.{Bor}
 use Rattle.refusals.proofs.Walking.{walk_here_own, walk_later_own, walk_none}
 use Rattle.refusals.specs.Walks.{Answer}
-use Rattle.theory.specs.Numbering.{SaysByNumber}
-use Rattle.theory.proofs.numbered.check_numbered.Goals as goal
+use Rattle.refusals.specs.Faults.{SaysByNumber}
+use Rattle.refusals.proofs.walk.check_numbered.Goals as goal
 
 -- what a call answers that is told the next number
 said : {X W : Type 0} (call : ℕ → Bor X → Answer W → Type 0) (check : List X → X → Answer W) → SaysByNumber call check → (seen : List X) (i : ℕ) → length seen ≡ i → (x : Bor X) (r : Answer W) → call (i + 1) x r → r ≡ check seen x.now

@@ -1,7 +1,7 @@
 use Rattle.std.proofs.Common.{◌≡◌, take, drop, []}
 use Rattle.refusals.specs.Walks.{walk}
-use Rattle.theory.specs.Numbering.{SaysByNumber}
-use Rattle.theory.proofs.numbered.check_numbered.Given as goal
+use Rattle.refusals.specs.Faults.{SaysByNumber}
+use Rattle.refusals.proofs.walk.check_numbered.Given as goal
 
 abbrev pub invariant-loop-i : goal.invariant-loop-i
 invariant-loop-i g l =
