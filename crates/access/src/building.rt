@@ -84,8 +84,7 @@ impl Builder<'_> {
     {
         match row {
             Row::Item(item) => at(self.held, number, false) || self.makes(self.owner.read(item)),
-            Row::Pair(a, b) => at(can, a, false) && at(can, b, false),
-            Row::Seal { content, key } | Row::Lock { content, key } => {
+            Row::Pair(content, key) | Row::Seal { content, key } | Row::Lock { content, key } => {
                 at(can, content, false) && at(can, key, false)
             }
         }

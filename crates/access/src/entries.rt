@@ -1,5 +1,6 @@
 ghost use Rattle.std.specs.Prelude.{◌≡◌, ◌+◌, ◌<◌, ◌≤◌, ◌++◌, map, length};
-ghost use Rattle.access.specs.Scopes.{name_entry, owner_entries, variable_entry, variable_entries, rule_scope};
+ghost use Rattle.types.specs.Forms.{read_type};
+ghost use Rattle.access.specs.Scopes.{name_entry, owner_entries, variable_entries, rule_scope};
 
 use crate::setting::Names;
 use arrayvec::ArrayVec;
@@ -13,20 +14,12 @@ use types::forms::{plain, read_type};
 /// The items declared where a rule is read.
 pub(crate) type Scope = ArrayVec<Entry, MAX_DECLARED>;
 
-fn name_entry(owner: Owner, declared: Declared) -> Entry
-    ensures { result ≡ name_entry owner declared }
+/// The item with its type, as the owner reads it.
+fn entry(owner: Owner, item: Item, of: Ty) -> Entry
+    ensures { result ≡ record { item = item; of = read_type owner of } }
 {
     Entry {
-        item: Item::Name(declared.name),
-        of: read_type(owner, declared.of),
-    }
-}
-
-fn variable_entry(owner: Owner, variable: u8, of: Ty) -> Entry
-    ensures { result ≡ variable_entry owner variable of }
-{
-    Entry {
-        item: Item::Variable(variable),
+        item,
         of: read_type(owner, of),
     }
 }
@@ -36,8 +29,9 @@ fn add_names(scope: &mut Scope, owner: Owner, names: &[Declared])
     requires { length scope.old.items + length names.now ≤ 144 }
     ensures { scope.new.items ≡ scope.old.items ++ map (name_entry owner) names.now }
 {
+    // No `extend`: it tells a full vector as want of memory, and here there is room.
     for declared in names {
-        scope.push(name_entry(owner, *declared));
+        scope.push(entry(owner, Item::Name(declared.name), declared.of));
     }
 }
 
@@ -60,8 +54,9 @@ fn add_variables(scope: &mut Scope, owner: Owner, variables: &[Ty])
     requires few { length variables.now ≤ 15 }
     ensures { scope.new.items ≡ scope.old.items ++ variable_entries owner 1 variables.now }
 {
+    // No `extend`, as for names.
     for (i, of) in variables.iter().enumerate() {
-        scope.push(variable_entry(owner, (i + 1) as u8, *of));
+        scope.push(entry(owner, Item::Variable((i + 1) as u8), *of));
     }
 }
 

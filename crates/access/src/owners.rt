@@ -16,7 +16,7 @@ impl Setting<'_> {
         ensures { result ≡ is_owner self.entry.owner (row_at (rows_of self.entry.book.now) number) }
     {
         match self.book.row(number) {
-            Some(Row::Item(item)) => self.owner.read(item) == self.owner.read(Item::Variable(0)),
+            Some(Row::Item(item)) => self.owner.read(item) == self.owner.item(),
             _ => false,
         }
     }
@@ -25,7 +25,7 @@ impl Setting<'_> {
     fn after_owner<'a>(self, arguments: &'a [usize]) -> Option<&'a [usize]>
         ensures { MatchOption result (begins self.entry.owner (rows_of self.entry.book.now) arguments.now ≡ false) (λ rest. (begins self.entry.owner (rows_of self.entry.book.now) arguments.now ≡ true) × ((k : ℕ) × (arguments.now ≡ k ∷ rest.now))) }
     {
-        // A rule of the project: the first argument is told from the rest by a slice pattern.
+        // A slice pattern: the form that was asked for here.
         let [first, rest @ ..] = arguments else {
             return None;
         };

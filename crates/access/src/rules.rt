@@ -67,7 +67,7 @@ fn check_rules<L: Layout>(layout: &L, setting: Setting, rules: &[Rule]) -> Resul
     requires { RulesTabled (length (rows_of setting.book.now)) rules.now }
     ensures { First (rules_lines (L.meaning layout.now) (setting_of setting.entry) rules.now) result }
 {
-    // No `check_numbered`: what is promised here is the first demand that is not met, and no walk.
+    // No `check_numbered`: it asks for a check of any rule, and `check_rule` takes tabled ones only.
     for (i, rule) in rules.iter().enumerate() {
         let here = Setting {
             rule: i + 1,

@@ -37,13 +37,7 @@ const PRINCIPAL_LINE: Line = Line {
     granted: Grant::Everybody,
 };
 
-const NONCE_LINE: Line = Line {
-    params: Params::Zero,
-    sendable: true,
-    kind: Kind::Plain,
-    makeable: true,
-    granted: Grant::Nobody,
-};
+const NONCE_LINE: Line = MSG_LINE;
 
 const REPORT: [Line; 6] = [
     MSG_LINE,
@@ -98,6 +92,7 @@ const KEY_SERVER: [Line; 5] = [
 ];
 
 /// What is said of a family that a layout lacks.
+// Written out: a derived default would promise no value.
 const LACKED: Line = Line {
     params: Params::Zero,
     sendable: false,

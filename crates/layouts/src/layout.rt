@@ -33,6 +33,7 @@ pub enum Kind {
 /// Types are grouped in families, which are numbered from 0. Every answer is read off the layout's
 /// meaning, and none changes it. Of a family that the layout lacks each question has an answer too:
 /// it has no parameters, is not sendable, plain, not to be made, and granted to nobody.
+// Families are numbers, and no enum: a layout may have families of its own.
 pub trait Layout {
     ghost meaning: { Self → Meaning };
 

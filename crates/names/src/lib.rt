@@ -1,4 +1,4 @@
-//! Sources of fresh names: the trait that says what a source is, three makes of it, and names drawn
+//! Sources of fresh names: the trait that says what a source is, its makes, and names drawn
 //! in turn from any of them.
 #![tactic(auto)]
 

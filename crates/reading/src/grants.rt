@@ -40,7 +40,7 @@ impl<L: Layout> Reader<'_, L> {
     {
         entry.item == above
             && self.layout.grants(
-                code(Some(self.me())),
+                code(Some(self.owner.item())),
                 of.family,
                 code(Some(above)),
                 code(second(of.params)),
@@ -62,9 +62,13 @@ impl<L: Layout> Reader<'_, L> {
         ensures { result ≡ type_granted (L.meaning self.now.layout.now) self.now.scope.now (owner_item self.now.owner) of }
     {
         match first(of.params) {
-            None => self
-                .layout
-                .grants(code(Some(self.me())), of.family, 0, 0, 0),
+            None => self.layout.grants(
+                code(Some(self.owner.item())),
+                of.family,
+                code(None),
+                code(None),
+                code(None),
+            ),
             Some(above) => self.is_granted_under(of, above),
         }
     }
@@ -94,6 +98,7 @@ impl<L: Layout> Reader<'_, L> {
             _ => false,
         }
     }
+
     /// Which rows are items that are granted to the owner.
     pub(crate) fn granted_rows(&self, book: &Book) -> Marks
         ensures { result.items ≡ granted_rows (L.meaning self.now.layout.now) self.now.scope.now self.now.owner (rows_of book.now) }

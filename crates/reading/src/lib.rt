@@ -7,6 +7,5 @@ pub mod left;
 mod lows;
 mod marks;
 mod openers;
-pub mod places;
 mod reader;
 pub mod scope;

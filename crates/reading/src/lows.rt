@@ -16,6 +16,7 @@ pub(crate) type Numbers = ArrayVec<usize, MAX_ROWS>;
 fn reduce(owner: Owner, low: &[usize], row: Row) -> Row
     ensures { result ≡ reduced owner low.now row }
 {
+    // 0 is no row's number: parts that are no rows are compared as equal, and no others with them.
     let lowest = |number: usize| at(low, number, 0);
     match row {
         Row::Item(item) => Row::Item(owner.read(item)),

@@ -47,7 +47,8 @@ impl View<'_> {
     fn lowest(self, number: usize) -> usize
         ensures { result ≡ at 0 (sight_of self.entry).low number }
     {
-        // 0 is no row's number, so nothing is marked at it, and each question tells `false` of it.
+        // 0, and no Option, where there is none: 0 is no row's number, so each test that follows tells
+        // `false` of it, and nothing is marked at it.
         at(self.low, number, 0)
     }
 
@@ -93,6 +94,7 @@ impl View<'_> {
     {
         let lowest = self.lowest(number);
         if is_number(got.len(), lowest) {
+            // By index, since the test has just told that it is there.
             got[lowest - 1] = true;
         }
     }

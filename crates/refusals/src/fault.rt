@@ -26,6 +26,7 @@ pub trait Reason: Copy {
 }
 
 /// Why something is refused, and where: the role and the rule, counted from 1, and the spot in it.
+// 0 where there is none, and no Option: the six numbers are told as they stand here.
 #[derive(Clone, Copy, PartialEq, Eq)]
 pub struct Fault<W> {
     pub role: usize,

@@ -10,7 +10,8 @@ pub mod walk;
 
 use std::fmt;
 
-// Numbers, and no enum: they are the form in which every layer tells a refusal; the faults are enums.
+// Numbers, and no enum: they are the form in which every layer tells a refusal. The reasons behind
+// them are enums.
 /// The six numbers of a refusal. A number that does not apply is 0.
 #[derive(Clone, Copy, PartialEq, Eq)]
 pub struct Refusal {

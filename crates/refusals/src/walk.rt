@@ -5,8 +5,8 @@ ghost use Rattle.refusals.specs.Walks.{pass, demand};
 use crate::fault::Fault;
 
 /// Where the elements of a list stand: the role and the rule, counted from 1, and how many elements
-/// of other lists count before them.
-#[derive(Clone, Copy, PartialEq, Eq)]
+/// of other lists count before them. The role or the rule is 0 where there is none, as in a fault.
+#[derive(Clone, Copy)]
 pub struct Place {
     pub role: usize,
     pub rule: usize,
@@ -22,6 +22,8 @@ pub fn demand<W: Drop>(holds: bool, why: W) -> Result<(), W>
 
 /// Checks the elements one after the other, each told those before it; the first fault is told with
 /// its place.
+// The bound is asked of callers, since the elements are of any type: of a list alone its length says
+// too little.
 pub fn check_each<T, W, F: Fn(&[T], &T) -> Result<(), W>>(
     items: &[T],
     place: Place,

@@ -1,5 +1,5 @@
 ghost use Rattle.std.specs.Prelude.{◌≡◌};
-ghost use Rattle.theory.specs.Owners.{owner_of, item_of};
+ghost use Rattle.theory.specs.Owners.{owner_of, owner_item, item_of};
 
 use terms::row::Item;
 
@@ -21,6 +21,13 @@ impl From<Option<u32>> for Owner {
 }
 
 impl Owner {
+    /// The item that the owner is: variable 0, or the name of an anchor.
+    pub fn item(self) -> Item
+        ensures { result ≡ owner_item self }
+    {
+        self.read(Item::Variable(0))
+    }
+
     /// The item as a role reads it.
     pub fn read(self, item: Item) -> Item
         ensures { result ≡ item_of self item }

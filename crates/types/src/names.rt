@@ -62,7 +62,7 @@ pub(crate) fn is_formed<L: Layout>(layout: &L, scope: Scope, of: Ty) -> bool
     )
 }
 
-/// Whether a name may be declared after those of the scope.
+/// Whether a name may be declared after those before it.
 fn check_name<L: Layout>(layout: &L, before: &[Declared], declared: Declared) -> Result<(), Ill>
     ensures { result ≡ name_check (L.meaning layout.now) before.now declared }
 {
@@ -82,7 +82,7 @@ pub(crate) fn check_names<L: Layout>(layout: &L, names: &[Declared]) -> Result<(
     ensures answer { result ≡ names_check (L.meaning layout.now) names.now }
     ensures judged { Passes result (Formed (L.meaning layout.now) (context_of (names_only names.now))) }
 {
-    // A rule of the project: a `for` loop over the declared records, whose index is the spot.
+    // A `for` with the index as spot, and no `check_each`: the form that was asked for here.
     for (i, declared) in names.iter().enumerate() {
         if let Err(why) = check_name(layout, &names[0..i], *declared) {
             return Err(TypeFault {

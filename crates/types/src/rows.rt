@@ -30,7 +30,7 @@ fn is_sent<L: Layout>(layout: &L, of: Option<Ty>) -> bool
 fn does_seal<L: Layout>(layout: &L, of: Option<Ty>) -> bool
     ensures { result ≡ seals (L.meaning layout.now) of }
 {
-    of.is_some_and(|of| matches!(layout.kind(of.family), Kind::Sealing))
+    of.is_some_and(|of| layout.kind(of.family) == Kind::Sealing)
 }
 
 fn does_lock<L: Layout>(layout: &L, of: Option<Ty>) -> bool

@@ -10,7 +10,7 @@ use crate::marked::Marked;
 use crate::names::is_formed;
 use crate::scope::Setting;
 use layouts::layout::{Layout, MSG};
-use refusals::walk::{Place, check_each, demand};
+use refusals::walk::{check_each, demand};
 use terms::places::numbered;
 use theory::data::{Fact, Predicate, Rule, Symbol, Ty};
 
@@ -23,14 +23,9 @@ fn check_variables<'x, L: Layout>(
 ) -> Result<(), TypeFault>
     ensures { result ≡ variables_check (L.meaning layout.now) (setting_of setting.entry) before.now variables.now }
 {
-    let place = Place {
-        role: setting.role,
-        rule: setting.rule,
-        before: before.len(),
-    };
     check_each(
         variables,
-        place,
+        setting.after(before.len()),
         |seen, of| demand(
             is_formed(layout, setting.scope(before, seen), *of),
             Ill::Unformed,
@@ -75,14 +70,9 @@ fn check_facts(
     requires { base + length facts.now < 2 ^ 64 }
     ensures { result ≡ facts_with (scope_of marked.now.scope) (ledger_of marked.now) (setting_of setting.entry) base facts.now }
 {
-    let place = Place {
-        role: setting.role,
-        rule: setting.rule,
-        before: base,
-    };
     check_each(
         facts,
-        place,
+        setting.after(base),
         |_, fact| check_symbol(marked, setting, fact.symbol, fact.rows.as_slice()),
     )
 }

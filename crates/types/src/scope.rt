@@ -2,6 +2,7 @@ ghost use Rattle.std.specs.Prelude.{◌≡◌, ◌++◌};
 ghost use Rattle.types.specs.Scopes.{scope_of};
 ghost use Rattle.types.specs.Rules.{setting_of, over};
 
+use refusals::walk::Place;
 use theory::data::{Declared, Predicate, Theory, Ty};
 use theory::owner::Owner;
 
@@ -36,6 +37,17 @@ impl<'a> Setting<'a> {
             owner: self.owner,
             universal,
             made,
+        }
+    }
+
+    /// Where the elements of a list stand in the rule, after so many others.
+    pub(crate) fn after(self, others: usize) -> Place
+        ensures { result ≡ record { role = self.entry.role; rule = self.entry.rule; before = others } }
+    {
+        Place {
+            role: self.role,
+            rule: self.rule,
+            before: others,
         }
     }
 }

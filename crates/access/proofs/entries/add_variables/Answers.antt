@@ -7,7 +7,7 @@ use Rattle.access.proofs.entries.add_variables.Goals as goal
 pub loop-i-preserved : goal.loop-i-preserved
 loop-i-preserved c = (
   omega (arith, c.push.ensures.len, c.loop-i.invariant.0),
-  c.push.ensures.items ∙ variables_more c.args.owner c.args.scope.now.items c.loop-i.scope.items c.args.variables.now c.loop-i.i _ _ c.loop-i-test.true c.variable_entry.ensures c.loop-i.invariant.1,
+  c.push.ensures.items ∙ variables_more c.args.owner c.args.scope.now.items c.loop-i.scope.items c.args.variables.now c.loop-i.i _ _ c.loop-i-test.true c.entry.ensures c.loop-i.invariant.1,
 )
 
 pub returns : goal.returns

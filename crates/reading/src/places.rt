@@ -1,1 +1,0 @@
-pub use terms::places::at;
