@@ -78,8 +78,7 @@ impl<S: Source> Source for Withholding<S> {
     }
 
     fn draw(&mut self) -> Option<u32> {
-        // A loop: a chain would draw through a closure that changes what it borrows, of which a proof
-        // knows nothing.
+        // A loop: a chain would need an iterator of draws, of which a proof knows less than of `draw`.
         while let Some(name) = self.below.draw() {
             if !self.withheld.contains(&name) {
                 return Some(name);

@@ -16,6 +16,7 @@ use theory::owner::Owner;
 
 /// What is told of a rule's left facts, row by row: whether the row's item is held, and whether the
 /// row is received and stays closed.
+// Two marks beside each other, and no list of pairs: each is asked alone.
 #[derive(Drop)]
 pub struct Reading {
     pub held: Marks,

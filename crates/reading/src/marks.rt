@@ -11,6 +11,8 @@ use theory::data::Fact;
 use theory::owner::Owner;
 
 /// What rows are read with: for each its lowest row and whether it is granted, and what opens locks.
+// Lists beside each other, and no list of records: each is worked out alone, and asked alone. An
+// entry that opens nothing is `None`, so that an opener has its entry's place.
 #[derive(Clone, Copy)]
 pub(crate) struct View<'a> {
     pub book: &'a Book,

@@ -135,8 +135,7 @@ fn read_command(heap: Global, words: &[&str]) -> Result<Option<Command>, AllocEr
                 .map(Command::from),
         ),
         ["fact", rest @ ..] => Ok(read_fact(heap, rest)?.map(Command::Fact)),
-        // Apart from these: one match over all commands took the check over five minutes, and
-        // three of its goals stayed open.
+        // Apart from these: as one match over all commands, tried once, three goals stayed open.
         _ => Ok(read_plain(words)),
     }
 }

@@ -33,6 +33,7 @@ fn does_seal<L: Layout>(layout: &L, of: Option<Ty>) -> bool
     of.is_some_and(|of| layout.kind(of.family) == Kind::Sealing)
 }
 
+// Beside `does_seal`: a key's kind tells what opens it, so one test over both would take a pattern.
 fn does_lock<L: Layout>(layout: &L, of: Option<Ty>) -> bool
     ensures { result ≡ locks (L.meaning layout.now) of }
 {
