@@ -4,6 +4,7 @@ ghost use Rattle.names.specs.Any.{view_of};
 ghost use Rattle.script.specs.Facts.{said_fact};
 ghost use Rattle.script.specs.Said.{said, said_part};
 ghost use Rattle.terms.specs.Held.{capacity_of};
+ghost use Rattle.bench.specs.Answers.{answered};
 ghost use Rattle.bench.specs.Changes.{Kept};
 ghost use Rattle.bench.specs.Roles.{blank_role};
 ghost use Rattle.bench.specs.States.{written_of, nothing, state_of, empty};
@@ -15,7 +16,6 @@ use crate::roles::{add_to_role, begun_role, put};
 use layouts::any::AnyLayout;
 use names::any::AnySource;
 use names::counter::Counter;
-use names::faults::ListFault;
 use names::roll::Roll;
 use names::withholding::Withholding;
 use script::command::{Command, Line, Part, read_line};
@@ -76,30 +76,32 @@ impl Desk {
         match read_line(self.heap, line)? {
             Line::Silent => Ok(None),
             Line::Unreadable => Ok(Some(Answer::NotUnderstood)),
-            Line::Command(command) => Ok(Some(self.carry_out(command))),
+            Line::Command(command) => Ok(Some(
+                self.carry_out(command).unwrap_or_else(Answer::Refused),
+            )),
         }
     }
 
     /// Carries out a command.
-    fn carry_out(&mut self, command: Command) -> Answer
-        ensures { Carried self.old.theory (state_of self.old) (said command) (state_of self.new) result }
+    fn carry_out(&mut self, command: Command) -> Result<Answer, Fault>
+        ensures { Carried self.old.theory (state_of self.old) (said command) (state_of self.new) (answered result) }
     {
         match command {
             Command::Row(row) => self.add_row(row),
             Command::New => {
                 self.theory = blank(self.heap);
                 self.initial = Vec::new(self.heap);
-                Answer::Noted
+                Ok(Answer::Noted)
             }
             Command::Layout(layout) => {
                 self.layout = layout;
-                Answer::Noted
+                Ok(Answer::Noted)
             }
             Command::Counter(first) => self.choose(AnySource::Counter(Counter::new(first))),
-            Command::Roll => match Roll::new(self.heap) {
-                Ok(roll) => self.choose(AnySource::Roll(roll)),
-                Err(fault) => Answer::Refused(Fault::List(fault)),
-            },
+            Command::Roll => {
+                let roll = Roll::new(self.heap)?;
+                self.choose(AnySource::Roll(roll))
+            }
             Command::Withholding => self.add_layer(),
             Command::Load(numbers) => self.load(numbers.as_slice()),
             Command::Withhold(numbers) => self.withhold(numbers.as_slice()),
@@ -108,60 +110,58 @@ impl Desk {
             Command::Role(anchor) => self.add_role(anchor),
             Command::Part(part) => self.add_part(part),
             Command::Fact(fact) => self.add_fact(fact),
-            Command::Check => match self.check() {
-                Ok(()) => Answer::Passed,
-                Err(fault) => Answer::Refused(fault),
-            },
+            Command::Check => {
+                self.check()?;
+                Ok(Answer::Passed)
+            }
         }
     }
 
     /// Adds a row to the theory's book.
-    fn add_row(&mut self, row: Row) -> Answer
-        ensures { RowAdded (capacity_of self.old.theory.book) (state_of self.old) row (state_of self.new) result }
+    fn add_row(&mut self, row: Row) -> Result<Answer, Fault>
+        ensures { RowAdded (capacity_of self.old.theory.book) (state_of self.old) row (state_of self.new) (answered result) }
     {
-        match self.theory.book.add(row) {
-            Ok(number) => Answer::Row(number),
-            Err(fault) => Answer::Refused(Fault::Book(fault)),
-        }
+        let number = self.theory.book.add(row)?;
+        Ok(Answer::Row(number))
     }
 
     /// Declares a name.
-    fn declare(&mut self, declared: Declared) -> Answer
-        ensures { Kept (state_of self.old) (with_theory (state_of self.old) (with_name (state_of self.old).theory declared)) (state_of self.new) result }
+    fn declare(&mut self, declared: Declared) -> Result<Answer, Fault>
+        ensures { Kept (state_of self.old) (with_theory (state_of self.old) (with_name (state_of self.old).theory declared)) (state_of self.new) (answered result) }
     {
         put(&mut self.theory.names, declared)
     }
 
     /// Adds a memory predicate.
-    fn add_memory(&mut self, arguments: Vec<Argument>) -> Answer
-        ensures { Kept (state_of self.old) (with_theory (state_of self.old) (with_memory (state_of self.old).theory arguments.items)) (state_of self.new) result }
+    fn add_memory(&mut self, arguments: Vec<Argument>) -> Result<Answer, Fault>
+        ensures { Kept (state_of self.old) (with_theory (state_of self.old) (with_memory (state_of self.old).theory arguments.items)) (state_of self.new) (answered result) }
     {
         put(&mut self.theory.memory, Predicate { arguments })
     }
 
     /// Begins a role.
-    fn add_role(&mut self, anchor: Option<u32>) -> Answer
-        ensures { Kept (state_of self.old) (with_theory (state_of self.old) (with_roles (state_of self.old).theory ((state_of self.old).theory.roles ++ blank_role anchor ∷ []))) (state_of self.new) result }
+    fn add_role(&mut self, anchor: Option<u32>) -> Result<Answer, Fault>
+        ensures { Kept (state_of self.old) (with_theory (state_of self.old) (with_roles (state_of self.old).theory ((state_of self.old).theory.roles ++ blank_role anchor ∷ []))) (state_of self.new) (answered result) }
     {
         let begun = begun_role(self.heap, anchor);
         put(&mut self.theory.roles, begun)
     }
 
     /// Adds to the last role.
-    fn add_part(&mut self, part: Part) -> Answer
-        ensures { PartAdded (state_of self.old) (said_part part) (state_of self.new) result }
+    fn add_part(&mut self, part: Part) -> Result<Answer, Fault>
+        ensures { PartAdded (state_of self.old) (said_part part) (state_of self.new) (answered result) }
     {
         let Some(mut last) = self.theory.roles.pop() else {
-            return Answer::NotUnderstood;
+            return Ok(Answer::NotUnderstood);
         };
-        let answer = add_to_role(self.heap, &mut last, part);
+        let added = add_to_role(self.heap, &mut last, part);
         self.theory.roles.push_reserved(last);
-        answer
+        added
     }
 
     /// Adds an initial fact.
-    fn add_fact(&mut self, fact: Fact) -> Answer
-        ensures { Kept (state_of self.old) (with_initial (state_of self.old) ((state_of self.old).initial ++ said_fact fact ∷ [])) (state_of self.new) result }
+    fn add_fact(&mut self, fact: Fact) -> Result<Answer, Fault>
+        ensures { Kept (state_of self.old) (with_initial (state_of self.old) ((state_of self.old).initial ++ said_fact fact ∷ [])) (state_of self.new) (answered result) }
     {
         put(&mut self.initial, fact)
     }
@@ -170,58 +170,51 @@ impl Desk {
     fn check(&self) -> Result<(), Fault>
         ensures { result ≡ theory_faults (meaning_of self.now.layout) self.now.theory }
     {
-        let initial: Vec<Fact> = Vec::new(self.heap);
-        check_tables(&self.theory, initial.as_slice())?;
+        // The theory alone: the initial facts are checked when a session is opened with them.
+        check_tables(&self.theory, &[])?;
         check_types(&self.layout, &self.theory)?;
         Ok(())
     }
 
     /// Chooses the source for the next session.
-    fn choose(&mut self, source: AnySource) -> Answer
-        ensures { Chosen (state_of self.old) (view_of source) (state_of self.new) result }
+    fn choose(&mut self, source: AnySource) -> Result<Answer, Fault>
+        ensures { Chosen (state_of self.old) (view_of source) (state_of self.new) (answered result) }
     {
-        match Withholding::new(self.heap, source) {
-            Ok(layered) => {
-                self.source = layered;
-                self.layered = false;
-                Answer::Noted
-            }
-            Err(_) => Answer::Refused(Fault::List(ListFault::NoMemory)),
-        }
+        self.source = Withholding::new(self.heap, source)?;
+        self.layered = false;
+        Ok(Answer::Noted)
     }
 
     /// Puts the withholding layer over the source, once.
-    fn add_layer(&mut self) -> Answer
-        ensures { Layers self.old.layered (state_of self.old) (state_of self.new) result }
+    fn add_layer(&mut self) -> Result<Answer, Fault>
+        ensures { Layers self.old.layered (state_of self.old) (state_of self.new) (answered result) }
     {
         if self.layered {
-            return Answer::NotUnderstood;
+            return Ok(Answer::NotUnderstood);
         }
         self.layered = true;
-        Answer::Noted
+        Ok(Answer::Noted)
     }
 
     /// Loads the roll.
-    fn load(&mut self, numbers: &[u32]) -> Answer
-        ensures { Loaded (state_of self.old).source (state_of self.old) numbers.now (state_of self.new) result }
+    fn load(&mut self, numbers: &[u32]) -> Result<Answer, Fault>
+        ensures { Loaded (state_of self.old).source (state_of self.old) numbers.now (state_of self.new) (answered result) }
     {
-        match self.source.load(numbers) {
-            None => Answer::NotUnderstood,
-            Some(Ok(())) => Answer::Loaded(numbers.len()),
-            Some(Err(fault)) => Answer::Refused(Fault::List(fault)),
-        }
+        let Some(loaded) = self.source.load(numbers) else {
+            return Ok(Answer::NotUnderstood);
+        };
+        loaded?;
+        Ok(Answer::Loaded(numbers.len()))
     }
 
     /// Sets the layer's list.
-    fn withhold(&mut self, numbers: &[u32]) -> Answer
-        ensures { Withholds self.old.layered (state_of self.old) numbers.now (state_of self.new) result }
+    fn withhold(&mut self, numbers: &[u32]) -> Result<Answer, Fault>
+        ensures { Withholds self.old.layered (state_of self.old) numbers.now (state_of self.new) (answered result) }
     {
         if !self.layered {
-            return Answer::NotUnderstood;
+            return Ok(Answer::NotUnderstood);
         }
-        match self.source.withhold(numbers) {
-            Ok(()) => Answer::Withheld(numbers.len()),
-            Err(fault) => Answer::Refused(Fault::List(fault)),
-        }
+        self.source.withhold(numbers)?;
+        Ok(Answer::Withheld(numbers.len()))
     }
 }

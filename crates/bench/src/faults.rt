@@ -1,9 +1,11 @@
 ghost use Rattle.std.specs.Prelude.{◌≡◌, Some};
+ghost use Rattle.names.specs.declared.faults.ListFault.TheVariants.{NoMemory};
 ghost use Rattle.bench.specs.Faults.{refusal_of, reason_of};
-ghost use Rattle.bench.specs.declared.faults.Fault.TheVariants.{Table, Typing};
+ghost use Rattle.bench.specs.declared.faults.Fault.TheVariants.{Book, List, Table, Typing};
 
 use names::faults::ListFault;
 use refusals::Refusal;
+use std::alloc::AllocFailed;
 use std::fmt;
 use terms::faults::BookFault;
 use theory::faults::TableFault;
@@ -43,6 +45,31 @@ impl fmt::Display for Fault {
             Fault::Table(fault) => fault.fmt(f),
             Fault::Typing(fault) => fault.fmt(f),
         }
+    }
+}
+
+impl From<BookFault> for Fault {
+    ghost from_gives = { λ f r. r ≡ Book f };
+
+    fn from(fault: BookFault) -> Fault {
+        Fault::Book(fault)
+    }
+}
+
+impl From<ListFault> for Fault {
+    ghost from_gives = { λ f r. r ≡ List f };
+
+    fn from(fault: ListFault) -> Fault {
+        Fault::List(fault)
+    }
+}
+
+/// Where there is no memory for one more in a list.
+impl<T: Drop> From<AllocFailed<T>> for Fault {
+    ghost from_gives = { λ _ r. r ≡ List NoMemory };
+
+    fn from(_refused: AllocFailed<T>) -> Fault {
+        Fault::List(ListFault::NoMemory)
     }
 }
 

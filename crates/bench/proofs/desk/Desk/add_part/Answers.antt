@@ -11,4 +11,4 @@ returns c =
     let s = state_of c.args.self.now in
     let popped : vec_items c.args.self.now.theory.roles ≡ vec_items c.pop.new.self ++ c.in-Some.last ∷ [] = search rules in
     edited_inside (λ roles. with_theory s (with_roles s.theory roles)) _ _ _ _
-    (edited_last written_role (with_part (said_part c.args.part)) _ _ _ _ _ _ popped c.push_reserved.ensures.items c.add_to_role-answer.ensures)
+    (edited_last written_role (with_part (said_part c.args.part)) _ _ _ _ _ _ popped c.push_reserved.ensures.items c.add_to_role-added.ensures)
