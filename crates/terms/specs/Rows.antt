@@ -1,5 +1,5 @@
 -- Rows: when two are equal, and which row has a number.
-use Rattle.std.specs.Prelude.{ℕ, ◌-◌, Bool, false, cond, ◌&&◌, List, None, Option, ◌==◌, nat_le, nat_lt}
+use Rattle.std.specs.Prelude.{ℕ, ◌-◌, Bool, false, cond, ◌&&◌, List, Some, None, Option, ◌==◌, nat_le, nat_lt}
 use Rattle.std.specs.List.{slice_get}
 use Rattle.terms.specs.declared.row.Item.{Item}
 use Rattle.terms.specs.declared.row.Item.TheVariants.{Name, Variable}
@@ -30,6 +30,13 @@ same_row (row.Lock a b) (row.Item j) = false
 same_row (row.Lock a b) (row.Pair c d) = false
 same_row (row.Lock a b) (row.Seal c d) = false
 same_row (row.Lock a b) (row.Lock c d) = a == c && b == d
+
+-- The item that the row is.
+abbrev pub row_item : Row → Option Item
+row_item (row.Item i) = Some i
+row_item (row.Pair a b) = None
+row_item (row.Seal c k) = None
+row_item (row.Lock c k) = None
 
 -- k is the number of one of n rows: rows are counted from 1.
 abbrev pub is_row : ℕ → ℕ → Bool

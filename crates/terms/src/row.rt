@@ -1,6 +1,6 @@
 ghost use Rattle.std.specs.Prelude.{◌≡◌};
 ghost use Rattle.earliest.specs.Places.{earliest};
-ghost use Rattle.terms.specs.Rows.{same_row};
+ghost use Rattle.terms.specs.Rows.{same_row, row_item};
 
 use earliest::earliest_place;
 
@@ -41,6 +41,16 @@ impl Default for Row {
 }
 
 impl Row {
+    /// The item that the row is, if it is one.
+    pub fn item(self) -> Option<Item>
+        ensures { result ≡ row_item self }
+    {
+        match self {
+            Row::Item(item) => Some(item),
+            _ => None,
+        }
+    }
+
     /// The place, counted from 0, of the earliest of the rows that equals this one.
     pub fn place_in(self, rows: &[Row]) -> Option<usize>
         ensures { result ≡ earliest same_row self rows.now }

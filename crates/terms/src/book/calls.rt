@@ -1,6 +1,7 @@
 ghost use Rattle.std.specs.Prelude.{◌≡◌, ◌≤◌, true, [], length};
+ghost use Rattle.std.specs.Option.{option_and_then};
 ghost use Rattle.refusals.specs.Tables.{decided};
-ghost use Rattle.terms.specs.Rows.{is_row, row_at};
+ghost use Rattle.terms.specs.Rows.{is_row, row_at, row_item};
 ghost use Rattle.terms.specs.Books.{unfit, is_book};
 ghost use Rattle.terms.specs.Held.{rows_of, capacity_of};
 ghost use Rattle.terms.specs.Adding.{Added};
@@ -33,6 +34,13 @@ impl Book {
         ensures exact { Exact (rows_of self.now) }
     {
         numbered(self.rows(), number).copied()
+    }
+
+    /// The item that the row with the number is, if it is one.
+    pub fn item(&self, number: usize) -> Option<Item>
+        ensures { result ≡ option_and_then row_item (row_at (rows_of self.now) number) }
+    {
+        self.row(number)?.item()
     }
 
     /// All rows, in order.
