@@ -1,8 +1,9 @@
 -- The lowest row that stays closed is the first whose mark is on.
-use Rattle.std.proofs.Common.{◌≡◌, ℕ, suc, ◌+◌, ◌-◌, ◌≤◌, Bool, true, false, eqb, not, List, [], ◌∷◌, ◌++◌, length, get_or, None, sym, refl, ap, subst, inl, inr, arith}
+use Rattle.std.proofs.Common.{◌≡◌, ℕ, suc, ◌+◌, ◌-◌, Bool, true, false, eqb, not, List, [], ◌∷◌, ◌++◌, length, get_or, take, sym, refl, ap, subst, inl, inr, arith}
 use Rattle.refusals.proofs.Deciding.{clash}
 use Rattle.refusals.specs.Decides.{Decides}
 use Rattle.refusals.specs.Demands.{Lines, First, lines}
+use Rattle.std.proofs.Math.Seq.{take-nil}
 use Rattle.std.proofs.lemmas.Bool.{ne_eqb}
 use Rattle.std.proofs.lemmas.List.{length_push}
 use Rattle.std.specs.List.{position_from}
@@ -21,11 +22,6 @@ at_next d xs j =
     let place : j + 1 - 1 ≡ j = omega arith in
     rw (more, place) refl
 
-none_on : (n : ℕ) (bs : List Bool) → ((j : ℕ) → not (get_or bs j false) ≡ true) → position_from (λ b. b) n bs ≡ None
-none_on n [] h = refl
-none_on n (true ∷ bs) h = clash (cc (h 0))
-none_on n (false ∷ bs) h = none_on (n + 1) bs (λ j. h (suc j))
-
 next : (r : Row) (seen : List Row) (n : ℕ) → n ≡ length seen → n + 1 ≡ length (seen ++ r ∷ [])
 next r seen n s = let l = length_push seen r in omega arith
 
@@ -37,15 +33,16 @@ module _ (e : Place) (P : ℕ → Type 0) where
   abbrev each : List Row → Row → Lines Denied
   each seen r = (StaysClosed (length seen + 1), P (length seen + 1)) ∷ []
 
-  pub closed_first : (rs seen : List Row) (n : ℕ) (bs : List Bool) → n ≡ length seen → ((j : ℕ) → Decides (not (get_or bs j false)) (P (n + j + 1))) → ((j : ℕ) → length rs ≤ j → P (n + j + 1)) →
-      First (lines each (at_rule e.role e.rule) seen rs) (none_closed e (position_from (λ b. b) n bs))
-  closed_first [] seen n bs s told past = ap (none_closed e) (none_on n bs (λ j. (told j).complete (past j (omega arith))))
-  closed_first (r ∷ rs) seen n [] s told past =
+  pub closed_first : (rs seen : List Row) (n : ℕ) (bs : List Bool) → n ≡ length seen → ((j : ℕ) → Decides (not (get_or bs j false)) (P (n + j + 1))) →
+      First (lines each (at_rule e.role e.rule) seen rs) (none_closed e (position_from (λ b. b) n (take (length rs) bs)))
+  closed_first [] seen n bs s told = refl
+  closed_first (r ∷ rs) seen n [] s told =
       let number : n + 0 + 1 ≡ length seen + 1 = omega (arith, s) in
-      inr (subst P number ((told 0).sound refl), closed_first rs (seen ++ r ∷ []) (n + 1) [] (next r seen n s) (λ j. subst (λ k. Decides true (P k)) (shift n j) (told (suc j))) (λ j h. subst P (shift n j) (past (suc j) (omega arith))))
-  closed_first (r ∷ rs) seen n (true ∷ bs) s told past =
+      let none : take {A = Bool} (length rs) [] ≡ [] = take-nil (length rs) in
+      inr (subst P number ((told 0).sound refl), subst (λ bs. First (lines each (at_rule e.role e.rule) (seen ++ r ∷ []) rs) (none_closed e (position_from (λ b. b) (n + 1) bs))) none (closed_first rs (seen ++ r ∷ []) (n + 1) [] (next r seen n s) (λ j. subst (λ k. Decides true (P k)) (shift n j) (told (suc j)))))
+  closed_first (r ∷ rs) seen n (true ∷ bs) s told =
       let number : n + 0 + 1 ≡ length seen + 1 = omega (arith, s) in
-      inl ((λ p. clash (cc ((told 0).complete (subst P (sym number) p)))), ap (λ k. none_closed e (position_from (λ b. b) k (true ∷ bs))) s)
-  closed_first (r ∷ rs) seen n (false ∷ bs) s told past =
+      inl ((λ p. clash (cc ((told 0).complete (subst P (sym number) p)))), ap (λ k. none_closed e (position_from (λ b. b) k (true ∷ take (length rs) bs))) s)
+  closed_first (r ∷ rs) seen n (false ∷ bs) s told =
       let number : n + 0 + 1 ≡ length seen + 1 = omega (arith, s) in
-      inr (subst P number ((told 0).sound refl), closed_first rs (seen ++ r ∷ []) (n + 1) bs (next r seen n s) (λ j. subst (λ k. Decides (not (get_or bs j false)) (P k)) (shift n j) (told (suc j))) (λ j h. subst P (shift n j) (past (suc j) (omega arith))))
+      inr (subst P number ((told 0).sound refl), closed_first rs (seen ++ r ∷ []) (n + 1) bs (next r seen n s) (λ j. subst (λ k. Decides (not (get_or bs j false)) (P k)) (shift n j) (told (suc j))))

@@ -8,7 +8,7 @@ use Rattle.judgments.specs.Contexts.{Ty, Decl, ◌∶◌, Context, ◌∈◌}
 use Rattle.judgments.specs.Rules.{arguments}
 use Rattle.judgments.specs.Rules as rules
 use Rattle.layouts.specs.Meanings.{Meaning}
-use Rattle.reading.proofs.Filled.{fill_here, fill_before, fill_long}
+use Rattle.reading.proofs.Filled.{fill_here, fill_before}
 use Rattle.reading.proofs.Granting.{same_decides}
 use Rattle.reading.proofs.Shapes.{key, shaped}
 use Rattle.reading.specs.Openers.{reads_as}
@@ -19,7 +19,7 @@ use Rattle.refusals.proofs.Demanding.{first_demand, first_then}
 use Rattle.refusals.specs.Decides.{Decides}
 use Rattle.refusals.specs.Demands.{Lines, First, lines}
 use Rattle.refusals.specs.Walks.{Answer, pass, demand, and_then, walk}
-use Rattle.std.proofs.lemmas.List.{length-take-le, get_or_past}
+use Rattle.std.proofs.lemmas.List.{length-take-le}
 use Rattle.std.proofs.lemmas.Option.{slice_get-get_or}
 use Rattle.std.proofs.lemmas.Bool.{and_parts, and_from, or_cases, or_left, or_right, ltb-true, leb-true, lt-ltb, le-leb}
 use Rattle.terms.proofs.Booked.{Earlier, earlier}
@@ -41,7 +41,7 @@ use Rattle.theory.specs.declared.owner.Owner.{Owner}
 use Rattle.types.proofs.Found.{declare_at, declare_cases}
 use Rattle.types.specs.Facts.{item_in}
 use Rattle.types.specs.Judged.{type_of, declare, variable_decl}
-use Rattle.types.specs.Rows.{at, row_at, nothing, term_of, terms, term_at}
+use Rattle.types.specs.Rows.{at, row_at, term_at}
 use Rattle.types.specs.Rules.{Place}
 use Rattle.types.specs.Scopes.{a_principal}
 use Rattle.types.specs.Typed.{symbol_of, fact_of}
@@ -282,14 +282,6 @@ module _ (e : Place) (book : is_book e.rows ≡ true) where
         let number : j + 1 ≡ 0 + j + 1 = omega arith in
         subst₂ (λ b k. Decides (not b) (Opened lay Γ me left (term k))) (at_next false cs j) number (told.closed_told (j + 1))
 
-    -- past the last row stands an item
-    open_past : (j : ℕ) → length rows ≤ j → Opened lay Γ me left (term (0 + j + 1))
-    open_past j h =
-        let number : 0 + j + 1 ≡ j + 1 = omega arith in
-        let long = fill_long (term_of o) [] [] rows in
-        let is : term (0 + j + 1) ≡ nothing = ap term number ∙ at_next nothing (terms o rows) j ∙ get_or_past (terms o rows) j nothing (omega arith) in
-        rw is tt
-
 -- ---- a rule
 module _ (lay : Meaning) (e : Place) (book : is_book e.rows ≡ true) (p : Parts) (tabled : PartsTabled (length e.rows) p) (hs cs : List Bool) where
   -- what was read over the scope, over the judgments' context
@@ -304,7 +296,7 @@ module _ (lay : Meaning) (e : Place) (book : is_book e.rows ≡ true) (p : Parts
       let told = rule_told t in
       first_append _ _ (owners_check e 0 p.left) _ (first_each (owner_check e) (owner_lines e) (at_spot e.role e.rule 0) _ (owner_first e book) p.left [] tabled.left_there)
       (λ _. first_append _ _ (owners_check e (length p.left) p.right) _ (first_each (owner_check e) (owner_lines e) (at_spot e.role e.rule (length p.left)) _ (owner_first e book) p.right [] tabled.right_there)
-      (λ _. first_append _ _ (closed_rows_check e cs) _ (closed_first e (λ n. Opened lay (before_made e p) (owner_item e.owner) (left_of e p) (term_at e.owner e.rows n)) e.rows [] 0 cs refl (open_decides e book lay (before_made e p) (left_of e p) hs cs told (length p.universal) p.made) (open_past e book lay (before_made e p) (left_of e p) hs cs told (length p.universal) p.made))
+      (λ _. first_append _ _ (closed_rows_check e cs) _ (closed_first e (λ n. Opened lay (before_made e p) (owner_item e.owner) (left_of e p) (term_at e.owner e.rows n)) e.rows [] 0 cs refl (open_decides e book lay (before_made e p) (left_of e p) hs cs told (length p.universal) p.made))
       (λ _. first_append _ _ (all_made_check lay e (length p.universal) p.made) _ (first_each (made_check lay) (made_lines lay) (at_spot e.role e.rule (length p.universal)) (λ _. Unit {0}) (λ seen T _. first_demand NotMakeable _ _ [] pass (record { sound = λ x. x; complete = λ x. x }) (λ _. refl)) p.made [] (λ T m. tt {0}))
       (λ _. first_each (built_check (can_rows e.owner (length p.universal) (length p.made) hs e.rows)) (built_lines lay e p) (at_spot e.role e.rule (length p.left)) _ (λ seen f h. arguments_first e book lay (before_made e p) (left_of e p) hs cs told (length p.universal) p.made (vec_items f.rows) h) p.right [] tabled.right_there))))
 

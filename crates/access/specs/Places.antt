@@ -7,7 +7,7 @@ use Rattle.access.specs.declared.faults.Denied.{Denied}
 use Rattle.access.specs.declared.setting.Setting.{Setting}
 
 -- The predicates of a theory have no say in the access check.
-abbrev pub setting_of : Setting → Place
+abbrev pub setting_of : {L : Type 0} → Setting L → Place
 setting_of e = record { names = e.names.declared.now; memory = []; own = []; rows = rows_of e.book.now; owner = e.owner; role = e.role; rule = e.rule }
 
 -- A row of the book has no spot in the rule.

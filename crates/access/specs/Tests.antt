@@ -1,5 +1,5 @@
 -- The tests of the access check, told which rows are held and which stay closed.
-use Rattle.std.specs.Prelude.{ℕ, ◌+◌, ◌-◌, Bool, true, false, not, ◌&&◌, ◌||◌, List, [], ◌∷◌, length, Some, None, Err, vec_items, Option, nat_le, nat_lt}
+use Rattle.std.specs.Prelude.{ℕ, ◌+◌, ◌-◌, Bool, true, false, not, ◌&&◌, ◌||◌, List, [], ◌∷◌, length, take, Some, None, Err, vec_items, Option, nat_le, nat_lt}
 use Rattle.layouts.specs.Meanings.{Meaning}
 use Rattle.reading.specs.Openers.{reads_as}
 use Rattle.refusals.specs.Walks.{Answer, pass, demand, and_then, walk}
@@ -50,9 +50,9 @@ abbrev pub none_closed : Place → Option ℕ → Answer AccessFault
 none_closed e None = pass
 none_closed e (Some n) = Err (at_rule e.role e.rule (n + 1) (StaysClosed (n + 1)))
 
--- The lowest row whose mark is on.
+-- The lowest row whose mark is on; a mark behind the last row counts for nothing.
 abbrev pub closed_rows_check : Place → List Bool → Answer AccessFault
-closed_rows_check e closed = none_closed e (position_from (λ b. b) 0 closed)
+closed_rows_check e closed = none_closed e (position_from (λ b. b) 0 (take (length e.rows) closed))
 
 -- ---- what is made
 abbrev pub made_check : Meaning → List Ty → Ty → Answer Denied

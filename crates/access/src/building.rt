@@ -1,9 +1,9 @@
-ghost use Rattle.std.specs.Prelude.{◌≡◌, ◌+◌, ◌^◌, ◌<◌, false, not, length, IfSome};
+ghost use Rattle.std.specs.Prelude.{◌≡◌, ◌+◌, ◌^◌, ◌<◌, false, not, length, take, IfSome};
 ghost use Rattle.std.specs.List.{find, position_from};
 ghost use Rattle.terms.specs.Numbered.{at};
 ghost use Rattle.terms.specs.Held.{rows_of};
 ghost use Rattle.access.specs.Places.{setting_of};
-ghost use Rattle.access.specs.Tests.{closed_rows_check, all_made_check, is_made, can_build, can_rows, all_built_check};
+ghost use Rattle.access.specs.Tests.{closed_rows_check, all_made_check, is_made, can_build, can_rows, arguments_check, all_built_check};
 
 use crate::faults::{AccessFault, Denied};
 use crate::setting::Setting;
@@ -17,42 +17,12 @@ use terms::row::{Item, Row};
 use theory::data::{Fact, Ty};
 use theory::owner::Owner;
 
-/// The place, counted from 0, of the first row that is received and stays closed.
-fn first_closed(closed: &[bool]) -> Option<usize>
-    ensures value { result ≡ position_from (λ b. b) 0 closed.now }
-    ensures within { IfSome result (λ n. n < length closed.now) }
+/// The place, counted from 0, of the first of so many rows that is received and stays closed.
+fn first_closed(closed: &[bool], rows: usize) -> Option<usize>
+    ensures value { result ≡ position_from (λ b. b) 0 (take rows closed.now) }
+    ensures within { IfSome result (λ n. n < rows) }
 {
-    closed.iter().position(|closed| *closed)
-}
-
-/// The lowest row that is received and stays closed.
-pub(crate) fn check_closed(setting: Setting, closed: &[bool]) -> Result<(), AccessFault>
-    ensures { result ≡ closed_rows_check (setting_of setting.entry) closed.now }
-{
-    match first_closed(closed) {
-        Some(place) => Err(Fault {
-            role: setting.role,
-            rule: setting.rule,
-            spot: 0,
-            why: Denied::StaysClosed(place + 1),
-        }),
-        None => Ok(()),
-    }
-}
-
-/// Made variables in order; the first has the number after `base`.
-pub(crate) fn check_made<L: Layout>(
-    layout: &L,
-    setting: Setting,
-    made: &[Ty],
-    base: usize,
-) -> Result<(), AccessFault>
-    requires { base + length made.now < 2 ^ 64 }
-    ensures { result ≡ all_made_check (L.meaning layout.now) (setting_of setting.entry) base made.now }
-{
-    check_each(made, setting.after(base), |_, of| {
-        demand(layout.may_be_made(of.family), Denied::NotMakeable)
-    })
+    closed.iter().take(rows).position(|closed| *closed)
 }
 
 /// What a rule's owner builds with: who that is, how many variables there are, and which rows are
@@ -105,20 +75,52 @@ fn first_unbuilt(can: &[bool], arguments: &[usize]) -> Option<usize>
     arguments.iter().copied().find(|row| !at(can, *row, false))
 }
 
-/// Right facts in order; the first has the spot after `base`.
-pub(crate) fn check_built(
-    setting: Setting,
-    can: &[bool],
-    facts: &[Fact],
-    base: usize,
-) -> Result<(), AccessFault>
-    requires { base + length facts.now < 2 ^ 64 }
-    ensures { result ≡ all_built_check (setting_of setting.entry) can.now base facts.now }
+/// Whether each argument can be built.
+fn check_arguments(can: &[bool], arguments: &[usize]) -> Result<(), Denied>
+    ensures { result ≡ arguments_check can.now arguments.now }
 {
-    check_each(facts, setting.after(base), |_, fact| {
-        match first_unbuilt(can, fact.rows.as_slice()) {
-            Some(row) => Err(Denied::NotBuildable(row)),
+    first_unbuilt(can, arguments).map_or(Ok(()), |row| Err(Denied::NotBuildable(row)))
+}
+
+impl<L: Layout> Setting<'_, L> {
+    /// The lowest row that is received and stays closed.
+    pub(crate) fn check_closed(&self, closed: &[bool]) -> Result<(), AccessFault>
+        ensures { result ≡ closed_rows_check (setting_of self.now) closed.now }
+    {
+        // No `map_or`: under a generic type its closure's meaning was not carried.
+        match first_closed(closed, self.book.rows().len()) {
+            Some(place) => Err(Fault {
+                role: self.role,
+                rule: self.rule,
+                spot: 0,
+                why: Denied::StaysClosed(place + 1),
+            }),
             None => Ok(()),
         }
-    })
+    }
+
+    /// Made variables in order; the first has the number after `base`.
+    pub(crate) fn check_made(&self, made: &[Ty], base: usize) -> Result<(), AccessFault>
+        requires { base + length made.now < 2 ^ 64 }
+        ensures { result ≡ all_made_check (L.meaning self.now.layout.now) (setting_of self.now) base made.now }
+    {
+        check_each(made, self.after(base), |_, of| {
+            demand(self.layout.may_be_made(of.family), Denied::NotMakeable)
+        })
+    }
+
+    /// Right facts in order; the first has the spot after `base`.
+    pub(crate) fn check_built(
+        &self,
+        can: &[bool],
+        facts: &[Fact],
+        base: usize,
+    ) -> Result<(), AccessFault>
+        requires { base + length facts.now < 2 ^ 64 }
+        ensures { result ≡ all_built_check (setting_of self.now) can.now base facts.now }
+    {
+        check_each(facts, self.after(base), |_, fact| {
+            check_arguments(can, fact.rows.as_slice())
+        })
+    }
 }

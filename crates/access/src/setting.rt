@@ -12,9 +12,10 @@ pub struct Names<'a> {
     ghost few: { length declared.now ≤ 128 },
 }
 
-/// What a rule is checked in, and its numbers.
-#[derive(Clone, Copy)]
-pub struct Setting<'a> {
+/// What a rule is checked in, under a layout, and its numbers.
+#[derive(Drop)]
+pub struct Setting<'a, L> {
+    pub layout: &'a L,
     pub names: Names<'a>,
     pub book: &'a Book,
     pub owner: Owner,
@@ -22,10 +23,10 @@ pub struct Setting<'a> {
     pub rule: usize,
 }
 
-impl Setting<'_> {
+impl<L> Setting<'_, L> {
     /// Where the elements of a list stand in the rule, after so many others.
-    pub(crate) fn after(self, others: usize) -> Place
-        ensures { result ≡ record { role = self.entry.role; rule = self.entry.rule; before = others } }
+    pub(crate) fn after(&self, others: usize) -> Place
+        ensures { result ≡ record { role = self.now.role; rule = self.now.rule; before = others } }
     {
         Place {
             role: self.role,

@@ -1,5 +1,5 @@
 -- The marks that passes end with are exactly what is received.
-use Rattle.std.proofs.Common.{◌≡◌, ℕ, zero, suc, ◌+◌, ◌-◌, ◌<◌, ◌≤◌, Bool, true, false, cond, not, ◌&&◌, eqb, ◌⊎◌, List, [], ◌∷◌, map, length, get_or, take, set, replicate, Some, None, vec_items, filter, Option, sym, refl, ap, ◌∙◌, subst, subst₂, inl, inr, ⊎_elim, arith}
+use Rattle.std.proofs.Common.{◌≡◌, ℕ, zero, suc, ◌+◌, ◌-◌, ◌<◌, ◌≤◌, Bool, true, false, cond, not, ◌&&◌, eqb, ◌⊎◌, List, [], ◌∷◌, map, length, get_or, take, set, replicate, Some, None, vec_items, filter, Option, option_and_then, sym, refl, ap, ◌∙◌, subst, subst₂, inl, inr, ⊎_elim, arith}
 use mathlib.Core.List.Memᴰ
 use Rattle.earliest.proofs.Firsts.{earliest_first}
 use Rattle.earliest.specs.Places.{First}
@@ -17,7 +17,7 @@ use Rattle.std.specs.List.{slice_get}
 use Rattle.terms.proofs.Booked.{Earlier, earlier}
 use Rattle.terms.proofs.Numbered.{row_within, row_there, row_from_one, is_row_from}
 use Rattle.terms.specs.Books.{is_book}
-use Rattle.terms.specs.Rows.{is_row}
+use Rattle.terms.specs.Rows.{is_row, row_item}
 use Rattle.terms.specs.Terms.{Term, item, pair, seal, lock}
 use Rattle.terms.specs.declared.row.Item.{Item}
 use Rattle.terms.specs.declared.row.Row.{Row}
@@ -317,7 +317,7 @@ module _ (lay : Meaning) (scope : List Entry) (o : Owner) (rows : List Row) (boo
     open_lock : (c k : ℕ) (i : Item) → row_at rows k ≡ Some (row.Item i) → Decides (is_open sight got (row.Lock c k)) (LockOpen (key o rows k))
     open_lock c k i e =
         let key_is : key o rows k ≡ item_of o i = ap (λ x. item_of o (item_in x)) e in
-        let same = ap (λ j. list_any (opens_now got j) (map (opener_of lay scope o rows) scope)) key_is ∙ sym (ap (is_unlocked sight got) e) in
+        let same = ap (λ j. list_any (opens_now got j) (map (opener_of lay scope o rows) scope)) key_is ∙ sym (ap (λ r. is_unlocked sight got (option_and_then row_item r)) e) in
         subst (λ b. Decides b (LockOpen (key o rows k))) same (lock_decides (key o rows k))
 
   -- ---- each mark has its reason

@@ -1,6 +1,6 @@
 -- Marks on rows: those received so far, and what a pass over them adds.
-use Rattle.std.specs.Prelude.{◌≡◌, ℕ, zero, suc, ◌+◌, ◌-◌, Bool, true, false, cond, not, ◌&&◌, ◌||◌, List, [], length, Some, None, vec_items, Option, slice_set, slice_index_or, fold, count_by}
-use Rattle.terms.specs.Rows.{same_item, is_row}
+use Rattle.std.specs.Prelude.{◌≡◌, ℕ, zero, suc, ◌+◌, ◌-◌, Bool, true, false, cond, not, ◌&&◌, ◌||◌, List, [], length, Some, None, vec_items, Option, option_and_then, slice_set, slice_index_or, fold, count_by}
+use Rattle.terms.specs.Rows.{same_item, is_row, row_item}
 use Rattle.terms.specs.declared.row.Item.{Item}
 use Rattle.terms.specs.declared.row.Row.{Row}
 use Rattle.terms.specs.declared.row.Row.TheVariants as row
@@ -42,20 +42,17 @@ received w got k = at false got (at 0 w.low k)
 abbrev pub held_of : Sight → List Bool → ℕ → Bool
 held_of w got k = received w got k || at false w.granted k
 
--- The row is the item of a key, and some opener of it is held.
-abbrev pub is_unlocked : Sight → List Bool → Option Row → Bool
+-- There is a key, and some opener of it, as the owner reads it, is held.
+abbrev pub is_unlocked : Sight → List Bool → Option Item → Bool
 is_unlocked w got None = false
-is_unlocked w got (Some (row.Item i)) = list_any (opens_now got (item_of w.owner i)) w.openers
-is_unlocked w got (Some (row.Pair a b)) = false
-is_unlocked w got (Some (row.Seal c k)) = false
-is_unlocked w got (Some (row.Lock c k)) = false
+is_unlocked w got (Some i) = list_any (opens_now got (item_of w.owner i)) w.openers
 
 -- The row is no seal or lock, or the key of the seal is held, or an opener of the lock.
 abbrev pub is_open : Sight → List Bool → Row → Bool
 is_open w got (row.Item i) = true
 is_open w got (row.Pair a b) = true
 is_open w got (row.Seal c k) = held_of w got k
-is_open w got (row.Lock c k) = is_unlocked w got (row_at w.rows k)
+is_open w got (row.Lock c k) = is_unlocked w got (option_and_then row_item (row_at w.rows k))
 
 abbrev pub mark_row : List Bool → ℕ → List Bool
 mark_row got n = cond (is_row (length got) n) (slice_set got (n - 1) true) got

@@ -93,6 +93,7 @@ impl<L: Layout> Reader<'_, L> {
     fn is_row_granted(&self, row: Row) -> bool
         ensures { result ≡ row_granted (L.meaning self.now.layout.now) self.now.scope.now self.now.owner row }
     {
+        // No `is_some_and`: of a closure that captures the reader, the check tells no result.
         match row {
             Row::Item(item) => self.is_granted(self.owner.read(item)),
             _ => false,

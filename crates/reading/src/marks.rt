@@ -1,11 +1,11 @@
 ghost use Rattle.std.specs.Prelude.{◌≡◌};
 ghost use Rattle.std.specs.List.{list_any};
-ghost use Rattle.terms.specs.Numbered.{at};
+ghost use Rattle.terms.specs.Numbered.{numbered};
 ghost use Rattle.reading.specs.Marks.{sight_of, opens_now, received, held_of, closed_of, is_open, put, visit, pass, Closed, ons, put_facts};
 
 use crate::openers::Opener;
 use terms::book::Book;
-use terms::places::{at, is_number};
+use terms::places::{at, is_number, numbered};
 use terms::row::{Item, Row};
 use theory::data::Fact;
 use theory::owner::Owner;
@@ -45,20 +45,18 @@ impl View<'_> {
             .any(|opener| opens_now(got, key, *opener))
     }
 
-    /// The number of the lowest row for the term of the row.
-    fn lowest(self, number: usize) -> usize
-        ensures { result ≡ at 0 (sight_of self.entry).low number }
+    /// The number of the lowest row for the term of the row, if there is one.
+    fn lowest(self, number: usize) -> Option<usize>
+        ensures { result ≡ numbered (sight_of self.entry).low number }
     {
-        // 0, and no Option, where there is none: 0 is no row's number, so each test that follows tells
-        // `false` of it, and nothing is marked at it.
-        at(self.low, number, 0)
+        numbered(self.low, number).copied()
     }
 
     /// Whether the term of the row is received: its lowest row is marked.
     fn is_received(self, got: &[bool], number: usize) -> bool
         ensures { result ≡ received (sight_of self.entry) got.now number }
     {
-        at(got, self.lowest(number), false)
+        self.lowest(number).is_some_and(|low| at(got, low, false))
     }
 
     /// Whether the item of the row is held: received, or granted.
@@ -76,9 +74,10 @@ impl View<'_> {
         match row {
             Row::Item(_) | Row::Pair(_, _) => true,
             Row::Seal { key, .. } => self.is_held(got, key),
-            Row::Lock { key, .. } => match self.book.row(key) {
-                Some(Row::Item(item)) => self.is_unlocked(got, self.owner.read(item)),
-                _ => false,
+            // No `is_some_and`: of a closure that captures the view, the check tells no result.
+            Row::Lock { key, .. } => match self.book.item(key) {
+                Some(item) => self.is_unlocked(got, self.owner.read(item)),
+                None => false,
             },
         }
     }
@@ -94,7 +93,9 @@ impl View<'_> {
     fn mark(self, got: &mut [bool], number: usize)
         ensures { got.new ≡ put (sight_of self.entry).low got.old number }
     {
-        let lowest = self.lowest(number);
+        let Some(lowest) = self.lowest(number) else {
+            return;
+        };
         if is_number(got.len(), lowest) {
             // By index, since the test has just told that it is there.
             got[lowest - 1] = true;

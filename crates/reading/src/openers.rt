@@ -39,10 +39,7 @@ pub(crate) type Openers = ArrayVec<Option<Opener>, MAX_DECLARED>;
 fn reads_as(owner: Owner, item: Item, row: Row) -> bool
     ensures { result ≡ reads_as owner item row }
 {
-    match row {
-        Row::Item(own) => owner.read(own) == item,
-        _ => false,
-    }
+    row.item().is_some_and(|own| owner.read(own) == item)
 }
 
 /// The place of the lowest row that is the item.

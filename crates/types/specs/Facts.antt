@@ -1,7 +1,9 @@
 -- The check of one fact.
-use Rattle.std.specs.Prelude.{ℕ, Bool, false, ◌&&◌, List, [], ◌∷◌, length, is_some, Some, None, Option, ◌==◌}
+use Rattle.std.specs.Prelude.{ℕ, Bool, false, ◌&&◌, List, [], ◌∷◌, length, is_some, Option, ◌==◌}
 use Rattle.layouts.specs.Meanings.{Meaning}
 use Rattle.std.specs.List.{list_all}
+use Rattle.std.specs.Option.{option_and_then, unwrap_or}
+use Rattle.terms.specs.Rows.{row_item}
 use Rattle.terms.specs.Held.{rows_of}
 use Rattle.types.specs.Forms.{mapped}
 use Rattle.types.specs.Scopes.{Declarations, scope_type}
@@ -47,11 +49,7 @@ abbrev pub all_flags : List Bool → List ℕ → Bool
 all_flags flags ks = list_all (at false flags) ks
 
 abbrev pub item_in : Option Row → Item
-item_in None = Name 0
-item_in (Some (row.Item i)) = i
-item_in (Some (row.Pair a b)) = Name 0
-item_in (Some (row.Seal c k)) = Name 0
-item_in (Some (row.Lock c k)) = Name 0
+item_in r = unwrap_or (option_and_then row_item r) (Name 0)
 
 -- what a parameter means, among the arguments of a fact
 abbrev pub slot_item : List Row → List ℕ → Slot → Item

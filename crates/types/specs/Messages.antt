@@ -1,6 +1,8 @@
 -- Which rows have msg, and which have another type.
 use Rattle.std.specs.Prelude.{ℕ, Bool, true, false, cond, ◌&&◌, ◌||◌, List, [], ◌∷◌, Some, None, Option, ◌==◌}
+use Rattle.std.specs.Option.{option_and_then}
 use Rattle.layouts.specs.Meanings.{Meaning}
+use Rattle.terms.specs.Rows.{row_item}
 use Rattle.types.specs.Scopes.{Declarations, scope_type}
 use Rattle.types.specs.Types.{items}
 use Rattle.theory.specs.Owners.{item_of}
@@ -44,11 +46,7 @@ locks lay None = false
 locks lay (Some T) = is_locking (lay.kind T.family)
 
 abbrev pub declared_row : Declarations → Option Row → Option Ty
-declared_row s None = None
-declared_row s (Some (row.Item i)) = scope_type s i
-declared_row s (Some (row.Pair a b)) = None
-declared_row s (Some (row.Seal c k)) = None
-declared_row s (Some (row.Lock c k)) = None
+declared_row s r = option_and_then (scope_type s) (option_and_then row_item r)
 
 -- the declared type of the item that a row is
 abbrev pub key_type : Declarations → List Row → ℕ → Option Ty

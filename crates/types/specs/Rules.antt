@@ -34,7 +34,7 @@ pub record Place : Type 0 where
   pub role : ℕ
   pub rule : ℕ
 
-abbrev pub setting_of : Setting → Place
+abbrev pub setting_of : {L : Type 0} → Setting L → Place
 setting_of e = record { names = vec_items e.theory.now.names; memory = vec_items e.theory.now.memory; own = e.own.now; rows = rows_of e.theory.now.book; owner = e.owner; role = e.role; rule = e.rule }
 
 abbrev pub over : Place → List Ty → Declarations

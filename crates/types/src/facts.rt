@@ -9,7 +9,7 @@ use crate::marked::Marked;
 use refusals::walk::demand;
 use terms::book::Book;
 use terms::places::at;
-use terms::row::{Item, Row};
+use terms::row::Item;
 use theory::data::{Argument, Slot, Ty};
 
 /// What a parameter means, among these arguments.
@@ -18,11 +18,8 @@ fn slot_item(book: &Book, args: &[usize], slot: Slot) -> Item
 {
     match slot {
         Slot::Name(n) => Item::Name(n),
-        Slot::Place(p) => match book.row(at(args, p, 0)) {
-            Some(Row::Item(item)) => item,
-            // Kept a name, not an Option: name 0 is nowhere declared, so no type agrees with it.
-            _ => Item::Name(0),
-        },
+        // Kept a name, not an Option: name 0 is nowhere declared, so no type agrees with it.
+        Slot::Place(p) => book.item(at(args, p, 0)).unwrap_or(Item::Name(0)),
     }
 }
 

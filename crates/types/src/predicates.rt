@@ -19,78 +19,72 @@ fn is_slot_of(names: &[Declared], earlier: &[Argument], slot: Slot, family: u8) 
     }
 }
 
-fn is_argument_formed<L: Layout>(
-    layout: &L,
-    names: &[Declared],
-    earlier: &[Argument],
-    argument: Argument,
-) -> bool
-    ensures { result ≡ argument_formed (L.meaning layout.now) names.now earlier.now argument }
-{
-    is_formed_by(
-        layout,
-        argument,
-        |slot, family| is_slot_of(names, earlier, slot, family),
-    )
+/// The declared names, under a layout: what predicates are checked in.
+#[derive(Drop)]
+pub(crate) struct Signature<'a, L> {
+    pub layout: &'a L,
+    pub names: &'a [Declared],
 }
 
-fn check_argument_types<L: Layout>(
-    layout: &L,
-    names: &[Declared],
-    arguments: &[Argument],
-) -> Result<(), Ill>
-    ensures { result ≡ arguments_formed (L.meaning layout.now) names.now arguments.now }
-{
-    // Only the reason is told of an argument, so the place that goes into the fault is left out.
-    let place = Place {
-        role: 0,
-        rule: 0,
-        before: 0,
-    };
-    check_each(
-        arguments,
-        place,
-        |earlier, argument| demand(
-            is_argument_formed(layout, names, earlier, *argument),
-            Ill::Unformed,
-        ),
-    )
-    .map_err(|fault| fault.why)
-}
+impl<L: Layout> Signature<'_, L> {
+    fn is_argument_formed(&self, earlier: &[Argument], argument: Argument) -> bool
+        ensures { result ≡ argument_formed (L.meaning self.now.layout.now) self.now.names.now earlier.now argument }
+    {
+        is_formed_by(
+            self.layout,
+            argument,
+            |slot, family| is_slot_of(self.names, earlier, slot, family),
+        )
+    }
 
-fn check_predicate<L: Layout>(
-    layout: &L,
-    names: &[Declared],
-    arguments: &[Argument],
-) -> Result<(), Ill>
-    ensures { result ≡ predicate_check (L.meaning layout.now) names.now arguments.now }
-{
-    check_argument_types(layout, names, arguments)?;
-    let is_principal = arguments
-        .first()
-        .is_some_and(|first| first.family == PRINCIPAL);
-    demand(is_principal, Ill::NoPrincipal)
-}
+    fn check_argument_types(&self, arguments: &[Argument]) -> Result<(), Ill>
+        ensures { result ≡ arguments_formed (L.meaning self.now.layout.now) self.now.names.now arguments.now }
+    {
+        // Only the reason is told of an argument, so the place that goes into the fault is left
+        // out. Tried as an `all` over `&arguments[..i]`: the slice asks for a bound on i, and the
+        // proof did not close.
+        let place = Place {
+            role: 0,
+            rule: 0,
+            before: 0,
+        };
+        check_each(
+            arguments,
+            place,
+            |earlier, argument| demand(self.is_argument_formed(earlier, *argument), Ill::Unformed),
+        )
+        .map_err(|fault| fault.why)
+    }
 
-/// Predicates in order; the first has the spot after `base`.
-pub(crate) fn check_predicates<L: Layout>(
-    layout: &L,
-    names: &[Declared],
-    predicates: &[Predicate],
-    role: usize,
-    base: usize,
-) -> Result<(), TypeFault>
-    requires { base + length predicates.now < 2 ^ 64 }
-    ensures { result ≡ predicates_check (L.meaning layout.now) names.now role base predicates.now }
-{
-    let place = Place {
-        role,
-        rule: 0,
-        before: base,
-    };
-    check_each(
-        predicates,
-        place,
-        |_, predicate| check_predicate(layout, names, predicate.arguments.as_slice()),
-    )
+    fn check_predicate(&self, arguments: &[Argument]) -> Result<(), Ill>
+        ensures { result ≡ predicate_check (L.meaning self.now.layout.now) self.now.names.now arguments.now }
+    {
+        self.check_argument_types(arguments)?;
+        let is_principal = arguments
+            .first()
+            .is_some_and(|first| first.family == PRINCIPAL);
+        demand(is_principal, Ill::NoPrincipal)
+    }
+
+    /// Predicates in order; the first has the spot after `base`.
+    pub(crate) fn check_predicates(
+        &self,
+        predicates: &[Predicate],
+        role: usize,
+        base: usize,
+    ) -> Result<(), TypeFault>
+        requires { base + length predicates.now < 2 ^ 64 }
+        ensures { result ≡ predicates_check (L.meaning self.now.layout.now) self.now.names.now role base predicates.now }
+    {
+        let place = Place {
+            role,
+            rule: 0,
+            before: base,
+        };
+        check_each(
+            predicates,
+            place,
+            |_, predicate| self.check_predicate(predicate.arguments.as_slice()),
+        )
+    }
 }

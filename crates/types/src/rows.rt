@@ -15,10 +15,7 @@ use theory::data::Ty;
 pub(crate) fn row_type(scope: Scope, rows: &[Row], number: usize) -> Option<Ty>
     ensures { result ≡ key_type (scope_of scope.entry) rows.now number }
 {
-    match numbered(rows, number) {
-        Some(Row::Item(item)) => item_type(scope, *item),
-        _ => None,
-    }
+    item_type(scope, numbered(rows, number)?.item()?)
 }
 
 fn is_sent<L: Layout>(layout: &L, of: Option<Ty>) -> bool

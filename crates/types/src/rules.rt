@@ -14,25 +14,6 @@ use refusals::walk::{check_each, demand};
 use terms::places::numbered;
 use theory::data::{Fact, Predicate, Rule, Symbol, Ty};
 
-/// Variables in order, after those before them.
-fn check_variables<'x, L: Layout>(
-    layout: &L,
-    setting: Setting<'x>,
-    before: &'x [Ty],
-    variables: &'x [Ty],
-) -> Result<(), TypeFault>
-    ensures { result ≡ variables_check (L.meaning layout.now) (setting_of setting.entry) before.now variables.now }
-{
-    check_each(
-        variables,
-        setting.after(before.len()),
-        |seen, of| demand(
-            is_formed(layout, setting.scope(before, seen), *of),
-            Ill::Unformed,
-        ),
-    )
-}
-
 fn check_listed(
     marked: &Marked,
     predicates: &[Predicate],
@@ -45,74 +26,68 @@ fn check_listed(
     check_fact(marked, predicate.arguments.as_slice(), args)
 }
 
-fn check_symbol(
-    marked: &Marked,
-    setting: Setting,
-    symbol: Symbol,
-    args: &[usize],
-) -> Result<(), Ill>
-    ensures { result ≡ symbol_check (scope_of marked.now.scope) (ledger_of marked.now) (setting_of setting.entry) symbol args.now }
-{
-    match symbol {
-        Symbol::Network => check_fact(marked, &[plain(MSG)], args),
-        Symbol::Memory(m) => check_listed(marked, setting.theory.memory.as_slice(), m, args),
-        Symbol::Role(p) => check_listed(marked, setting.own, p, args),
+impl<'a, L: Layout> Setting<'a, L> {
+    /// Variables in order, after those before them.
+    fn check_variables(&self, before: &'a [Ty], variables: &'a [Ty]) -> Result<(), TypeFault>
+        ensures { result ≡ variables_check (L.meaning self.now.layout.now) (setting_of self.now) before.now variables.now }
+    {
+        check_each(
+            variables,
+            self.after(before.len()),
+            |seen, of| demand(
+                is_formed(self.layout, self.scope(before, seen), *of),
+                Ill::Unformed,
+            ),
+        )
     }
-}
 
-/// Facts in order; the first has the spot after `base`.
-fn check_facts(
-    marked: &Marked,
-    setting: Setting,
-    facts: &[Fact],
-    base: usize,
-) -> Result<(), TypeFault>
-    requires { base + length facts.now < 2 ^ 64 }
-    ensures { result ≡ facts_with (scope_of marked.now.scope) (ledger_of marked.now) (setting_of setting.entry) base facts.now }
-{
-    check_each(
-        facts,
-        setting.after(base),
-        |_, fact| check_symbol(marked, setting, fact.symbol, fact.rows.as_slice()),
-    )
-}
+    fn check_symbol(&self, marked: &Marked, symbol: Symbol, args: &[usize]) -> Result<(), Ill>
+        ensures { result ≡ symbol_check (scope_of marked.now.scope) (ledger_of marked.now) (setting_of self.now) symbol args.now }
+    {
+        match symbol {
+            Symbol::Network => check_fact(marked, &[plain(MSG)], args),
+            Symbol::Memory(m) => check_listed(marked, self.theory.memory.as_slice(), m, args),
+            Symbol::Role(p) => check_listed(marked, self.own, p, args),
+        }
+    }
 
-/// One side of a rule, over these variables.
-fn check_side<'x, L: Layout>(
-    layout: &L,
-    setting: Setting<'x>,
-    before: &'x [Ty],
-    made: &'x [Ty],
-    facts: &[Fact],
-    base: usize,
-) -> Result<(), TypeFault>
-    requires { base + length facts.now < 2 ^ 64 }
-    ensures { result ≡ facts_check (L.meaning layout.now) (setting_of setting.entry) (before.now ++ made.now) base facts.now }
-{
-    let marked = Marked::new(layout, setting.scope(before, made), &setting.theory.book);
-    check_facts(&marked, setting, facts, base)
-}
+    /// Facts in order; the first has the spot after `base`.
+    fn check_facts(&self, marked: &Marked, facts: &[Fact], base: usize) -> Result<(), TypeFault>
+        requires { base + length facts.now < 2 ^ 64 }
+        ensures { result ≡ facts_with (scope_of marked.now.scope) (ledger_of marked.now) (setting_of self.now) base facts.now }
+    {
+        check_each(
+            facts,
+            self.after(base),
+            |_, fact| self.check_symbol(marked, fact.symbol, fact.rows.as_slice()),
+        )
+    }
 
-/// A rule: universal variables, left facts, made variables, right facts.
-pub(crate) fn check_rule<'x, L: Layout>(
-    layout: &L,
-    setting: Setting<'x>,
-    rule: &'x Rule,
-) -> Result<(), TypeFault>
-    ensures { result ≡ rule_check (L.meaning layout.now) (setting_of setting.entry) rule.now }
-{
-    let universal = rule.universal.as_slice();
-    let left = rule.left.as_slice();
-    let made = rule.made.as_slice();
-    check_variables(layout, setting, &[], universal)?;
-    check_side(layout, setting, &[], universal, left, 0)?;
-    check_variables(layout, setting, universal, made)?;
-    check_side(
-        layout,
-        setting,
-        universal,
-        made,
-        rule.right.as_slice(),
-        left.len(),
-    )
+    /// One side of a rule, over these variables.
+    fn check_side(
+        &self,
+        before: &'a [Ty],
+        made: &'a [Ty],
+        facts: &[Fact],
+        base: usize,
+    ) -> Result<(), TypeFault>
+        requires { base + length facts.now < 2 ^ 64 }
+        ensures { result ≡ facts_check (L.meaning self.now.layout.now) (setting_of self.now) (before.now ++ made.now) base facts.now }
+    {
+        let marked = Marked::new(self.layout, self.scope(before, made), &self.theory.book);
+        self.check_facts(&marked, facts, base)
+    }
+
+    /// A rule: universal variables, left facts, made variables, right facts.
+    pub(crate) fn check_rule(&self, rule: &'a Rule) -> Result<(), TypeFault>
+        ensures { result ≡ rule_check (L.meaning self.now.layout.now) (setting_of self.now) rule.now }
+    {
+        let universal = rule.universal.as_slice();
+        let left = rule.left.as_slice();
+        let made = rule.made.as_slice();
+        self.check_variables(&[], universal)?;
+        self.check_side(&[], universal, left, 0)?;
+        self.check_variables(universal, made)?;
+        self.check_side(universal, made, rule.right.as_slice(), left.len())
+    }
 }

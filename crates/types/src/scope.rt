@@ -18,8 +18,9 @@ pub struct Scope<'a> {
 }
 
 /// What a rule is checked in, and its numbers.
-#[derive(Clone, Copy)]
-pub struct Setting<'a> {
+#[derive(Drop)]
+pub struct Setting<'a, L> {
+    pub layout: &'a L,
     pub theory: &'a Theory,
     pub own: &'a [Predicate],
     pub owner: Owner,
@@ -27,10 +28,10 @@ pub struct Setting<'a> {
     pub rule: usize,
 }
 
-impl<'a> Setting<'a> {
+impl<'a, L> Setting<'a, L> {
     /// The names and the owner, and these variables.
-    pub(crate) fn scope(self, universal: &'a [Ty], made: &'a [Ty]) -> Scope<'a>
-        ensures { scope_of result ≡ over (setting_of self.entry) (universal.now ++ made.now) }
+    pub(crate) fn scope(&self, universal: &'a [Ty], made: &'a [Ty]) -> Scope<'a>
+        ensures { scope_of result ≡ over (setting_of self.now) (universal.now ++ made.now) }
     {
         Scope {
             names: self.theory.names.as_slice(),
@@ -41,8 +42,8 @@ impl<'a> Setting<'a> {
     }
 
     /// Where the elements of a list stand in the rule, after so many others.
-    pub(crate) fn after(self, others: usize) -> Place
-        ensures { result ≡ record { role = self.entry.role; rule = self.entry.rule; before = others } }
+    pub(crate) fn after(&self, others: usize) -> Place
+        ensures { result ≡ record { role = self.now.role; rule = self.now.rule; before = others } }
     {
         Place {
             role: self.role,

@@ -9,29 +9,26 @@ ghost use Rattle.types.specs.Demands.{theory_lines, numbered};
 
 use crate::faults::{Ill, TypeFault};
 use crate::names::{check_names, has_family, name_type};
-use crate::predicates::check_predicates;
-use crate::rules::check_rule;
+use crate::predicates::Signature;
 use crate::scope::Setting;
 use layouts::layout::{Layout, PRINCIPAL};
 use refusals::walk::check_numbered;
 use theory::data::{Declared, Role, Rule, Theory};
 use theory::owner::Owner;
 
-/// The rules of a role, in order.
-fn check_rules<'x, L: Layout>(
-    layout: &L,
-    setting: Setting<'x>,
-    rules: &'x [Rule],
-) -> Result<(), TypeFault>
-    ensures { result ≡ rules_check (L.meaning layout.now) (setting_of setting.entry) rules.now }
-{
-    check_numbered(rules, |number, rule| {
-        let here = Setting {
-            rule: number,
-            ..setting
-        };
-        check_rule(layout, here, rule)
-    })
+impl<'a, L: Layout> Setting<'a, L> {
+    /// The rules of a role, in order.
+    fn check_rules(&self, rules: &'a [Rule]) -> Result<(), TypeFault>
+        ensures { result ≡ rules_check (L.meaning self.now.layout.now) (setting_of self.now) rules.now }
+    {
+        check_numbered(rules, |number, rule| {
+            let here = Setting {
+                rule: number,
+                ..*self
+            };
+            here.check_rule(rule)
+        })
+    }
 }
 
 /// An anchor is a declared principal.
@@ -61,15 +58,16 @@ fn check_role<L: Layout>(
     let names = theory.names.as_slice();
     let own = role.predicates.as_slice();
     check_anchor(names, role.anchor, number)?;
-    check_predicates(layout, names, own, number, 0)?;
+    Signature { layout, names }.check_predicates(own, number, 0)?;
     let setting = Setting {
+        layout,
         theory,
         own,
         owner: Owner::from(role.anchor),
         role: number,
         rule: 0,
     };
-    check_rules(layout, setting, role.rules.as_slice())
+    setting.check_rules(role.rules.as_slice())
 }
 
 /// Role after role.
@@ -88,7 +86,7 @@ fn check_tables<L: Layout>(layout: &L, theory: &Theory) -> Result<(), TypeFault>
 {
     let names = theory.names.as_slice();
     check_names(layout, names)?;
-    check_predicates(layout, names, theory.memory.as_slice(), 0, names.len())?;
+    Signature { layout, names }.check_predicates(theory.memory.as_slice(), 0, names.len())?;
     check_roles(layout, theory)
 }
 
