@@ -1,6 +1,8 @@
 -- Playing a script: what a line does to the state, and its answer.
 use Rattle.std.specs.Prelude.{◌≡◌, ℕ, max, Bool, true, false, List, [], ◌∷◌, ◌++◌, length, Some, None, Ok, Err, Option, Result}
 use Rattle.std.specs.Option.{option_map}
+use Rattle.access.specs.Checks as checks
+use Rattle.access.specs.declared.faults.CheckFault.{CheckFault}
 use Rattle.layouts.specs.declared.any.AnyLayout.{AnyLayout}
 use Rattle.layouts.specs.Any.{meaning_of}
 use Rattle.layouts.specs.Meanings.{Meaning}
@@ -16,13 +18,9 @@ use Rattle.terms.specs.Adding.{Added}
 use Rattle.terms.specs.declared.faults.BookFault.{BookFault}
 use Rattle.terms.specs.declared.row.Row.{Row}
 use Rattle.terms.specs.Held.{capacity_of}
-use Rattle.theory.specs.Tables.{tables_check}
 use Rattle.theory.specs.Data.{Argument}
 use Rattle.theory.specs.declared.data.Declared.{Declared}
 use Rattle.theory.specs.declared.data.Theory.{Theory}
-use Rattle.theory.specs.Faults.{TableFault}
-use Rattle.types.specs.Theories.{theory_check}
-use Rattle.types.specs.Faults.{TypeFault}
 use Rattle.bench.specs.Changes.{Kept, Edited}
 use Rattle.bench.specs.Roles.{WrittenRole, blank_role, changed_last, with_part}
 use Rattle.bench.specs.States.{State, Written, nothing}
@@ -77,21 +75,13 @@ RowAdded capacity s r t a =
     (result : Result ℕ BookFault) × Added s.theory.rows capacity r t.theory.rows result × (a ≡ by_number result) × (t ≡ with_theory s (with_rows s.theory t.theory.rows))
 
 -- ---- checks
--- The tables are checked before the types; the first fault goes up whole.
-abbrev pub by_types : Result (Unit {0}) TypeFault → Result (Unit {0}) Fault
-by_types (Ok u) = Ok u
-by_types (Err f) = Err (fault.Typing f)
+abbrev pub by_check : Result (Unit {0}) CheckFault → Answer
+by_check (Ok u) = answer.Passed
+by_check (Err f) = answer.Refused (fault.Check f)
 
-abbrev pub by_tables : Result (Unit {0}) TableFault → Result (Unit {0}) Fault → Result (Unit {0}) Fault
-by_tables (Ok u) next = next
-by_tables (Err f) next = Err (fault.Table f)
-
-abbrev pub theory_faults : Meaning → Theory → Result (Unit {0}) Fault
-theory_faults lay T = by_tables (tables_check T []) (by_types (theory_check lay T))
-
-abbrev pub check_answer : Result (Unit {0}) Fault → Answer
-check_answer (Ok u) = answer.Passed
-check_answer (Err f) = answer.Refused f
+-- What is answered where the checks of the theory answer.
+abbrev pub Checks : Meaning → Theory → Answer → Type 0
+Checks lay T a = (r : Result (Unit {0}) CheckFault) × checks.Answered lay T r × (a ≡ by_check r)
 
 -- ---- sources
 abbrev pub Chosen : State → View → State → Answer → Type 0
@@ -138,7 +128,7 @@ Carried T s (said.memory arguments) t a = Kept s (with_theory s (with_memory s.t
 Carried T s (said.role anchor) t a = Kept s (with_theory s (with_roles s.theory (s.theory.roles ++ blank_role anchor ∷ []))) t a
 Carried T s (said.part p) t a = PartAdded s p t a
 Carried T s (said.initial f) t a = Kept s (with_initial s (s.initial ++ f ∷ [])) t a
-Carried T s said.check t a = (t ≡ s) × (a ≡ check_answer (theory_faults (meaning_of s.layout) T))
+Carried T s said.check t a = (t ≡ s) × Checks (meaning_of s.layout) T a
 
 -- A line that is only echoed has no answer; it changes nothing, as one that can't be read.
 abbrev pub LineAnswered : Theory → State → SaidLine → State → Option Answer → Type 0

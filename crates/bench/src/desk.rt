@@ -8,11 +8,12 @@ ghost use Rattle.bench.specs.Answers.{answered};
 ghost use Rattle.bench.specs.Changes.{Kept};
 ghost use Rattle.bench.specs.Roles.{blank_role};
 ghost use Rattle.bench.specs.States.{written_of, nothing, state_of, empty};
-ghost use Rattle.bench.specs.Playing.{with_name, with_memory, with_roles, with_theory, with_initial, RowAdded, PartAdded, theory_faults, Chosen, Layers, Loaded, Withholds, Carried, Answered};
+ghost use Rattle.bench.specs.Playing.{with_name, with_memory, with_roles, with_theory, with_initial, RowAdded, PartAdded, Checks, Chosen, Layers, Loaded, Withholds, Carried, Answered};
 
 use crate::answer::Answer;
 use crate::faults::Fault;
 use crate::roles::{add_to_role, begun_role, put};
+use access::check::check;
 use layouts::any::AnyLayout;
 use names::any::AnySource;
 use names::counter::Counter;
@@ -23,8 +24,6 @@ use std::alloc::{AllocError, Global};
 use terms::book::Book;
 use terms::row::Row;
 use theory::data::{Argument, Declared, Fact, Predicate, Theory};
-use theory::tables::check_tables;
-use types::theories::check_types;
 
 /// A theory with nothing in it.
 fn blank(heap: Global) -> Theory
@@ -110,10 +109,7 @@ impl Desk {
             Command::Role(anchor) => self.add_role(anchor),
             Command::Part(part) => self.add_part(part),
             Command::Fact(fact) => self.add_fact(fact),
-            Command::Check => {
-                self.check()?;
-                Ok(Answer::Passed)
-            }
+            Command::Check => self.check(),
         }
     }
 
@@ -166,14 +162,13 @@ impl Desk {
         put(&mut self.initial, fact)
     }
 
-    /// Checks the tables and the types of the theory.
-    fn check(&self) -> Result<(), Fault>
-        ensures { result ≡ theory_faults (meaning_of self.now.layout) self.now.theory }
+    /// Checks the tables, the types and the data access of the theory.
+    fn check(&self) -> Result<Answer, Fault>
+        ensures { Checks (meaning_of self.now.layout) self.now.theory (answered result) }
     {
         // The theory alone: the initial facts are checked when a session is opened with them.
-        check_tables(&self.theory, &[])?;
-        check_types(&self.layout, &self.theory)?;
-        Ok(())
+        check(&self.layout, &self.theory)?;
+        Ok(Answer::Passed)
     }
 
     /// Chooses the source for the next session.

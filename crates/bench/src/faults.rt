@@ -1,23 +1,21 @@
 ghost use Rattle.std.specs.Prelude.{◌≡◌, Some};
 ghost use Rattle.names.specs.declared.faults.ListFault.TheVariants.{NoMemory};
 ghost use Rattle.bench.specs.Faults.{refusal_of, reason_of};
-ghost use Rattle.bench.specs.declared.faults.Fault.TheVariants.{Book, List, Table, Typing};
+ghost use Rattle.bench.specs.declared.faults.Fault.TheVariants.{Book, List, Check};
 
+use access::faults::CheckFault;
 use names::faults::ListFault;
 use refusals::Refusal;
 use std::alloc::AllocFailed;
 use std::fmt;
 use terms::faults::BookFault;
-use theory::faults::TableFault;
-use types::faults::TypeFault;
 
 /// The fault of a refused call, whole.
 #[derive(Clone, Copy)]
 pub enum Fault {
     Book(BookFault),
     List(ListFault),
-    Table(TableFault),
-    Typing(TypeFault),
+    Check(CheckFault),
 }
 
 /// The six numbers of the fault.
@@ -28,8 +26,7 @@ impl From<Fault> for Refusal {
         match fault {
             Fault::Book(fault) => fault.into(),
             Fault::List(fault) => fault.into(),
-            Fault::Table(fault) => fault.into(),
-            Fault::Typing(fault) => fault.into(),
+            Fault::Check(fault) => fault.into(),
         }
     }
 }
@@ -42,8 +39,7 @@ impl fmt::Display for Fault {
         match self {
             Fault::Book(fault) => fault.fmt(f),
             Fault::List(fault) => fault.fmt(f),
-            Fault::Table(fault) => fault.fmt(f),
-            Fault::Typing(fault) => fault.fmt(f),
+            Fault::Check(fault) => fault.fmt(f),
         }
     }
 }
@@ -73,18 +69,10 @@ impl<T: Drop> From<AllocFailed<T>> for Fault {
     }
 }
 
-impl From<TableFault> for Fault {
-    ghost from_gives = { λ f r. r ≡ Table f };
+impl From<CheckFault> for Fault {
+    ghost from_gives = { λ f r. r ≡ Check f };
 
-    fn from(fault: TableFault) -> Fault {
-        Fault::Table(fault)
-    }
-}
-
-impl From<TypeFault> for Fault {
-    ghost from_gives = { λ f r. r ≡ Typing f };
-
-    fn from(fault: TypeFault) -> Fault {
-        Fault::Typing(fault)
+    fn from(fault: CheckFault) -> Fault {
+        Fault::Check(fault)
     }
 }
