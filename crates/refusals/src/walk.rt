@@ -22,8 +22,8 @@ pub fn demand<W: Drop>(holds: bool, why: W) -> Result<(), W>
 
 /// Checks the elements one after the other, each told those before it; the first fault is told with
 /// its place.
-// The bound is asked of callers, since the elements are of any type: of a list alone its length says
-// too little.
+// What is asked is of our own code and of no input: that the closure may be called, and that spots fit;
+// of elements of any type, a list's length alone says too little.
 pub fn check_each<T, W, F: Fn(&[T], &T) -> Result<(), W>>(
     items: &[T],
     place: Place,
@@ -48,6 +48,7 @@ pub fn check_each<T, W, F: Fn(&[T], &T) -> Result<(), W>>(
 
 /// Checks the elements one after the other, each told its number, counted from 1; the first fault
 /// is the answer.
+// What is asked is of our own code and of no input: that the closure may be called.
 pub fn check_numbered<T, W, F: Fn(usize, &T) -> Result<(), W>>(
     items: &[T],
     check: F,

@@ -24,7 +24,7 @@ pub(crate) fn is_msg(of: Ty) -> bool
 }
 
 /// The type with its parameters made others, one by one.
-pub fn map_params<P: Copy, Q, F: Fn(P) -> Q>(of: Ty<P>, change: F) -> Ty<Q>
+pub(crate) fn map_params<P: Copy, Q, F: Fn(P) -> Q>(of: Ty<P>, change: F) -> Ty<Q>
     requires { F.IsAlwaysCallable change }
     ensures { Mapped (F.post change) of result }
 {

@@ -41,6 +41,7 @@ impl<'a, L> Setting<'a, L> {
         }
     }
 
+    // The access check has a setting of its own, with this method too: of its fields three are others.
     /// Where the elements of a list stand in the rule, after so many others.
     pub(crate) fn after(&self, others: usize) -> Place
         ensures { result ≡ record { role = self.now.role; rule = self.now.rule; before = others } }

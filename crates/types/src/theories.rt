@@ -1,4 +1,5 @@
 ghost use Rattle.std.specs.Prelude.{◌≡◌, vec_items};
+ghost use Rattle.judgments.specs.Theorems.{DeclaredOnce};
 ghost use Rattle.terms.specs.Held.{rows_of};
 ghost use Rattle.types.specs.Rules.{setting_of};
 ghost use Rattle.types.specs.Theories.{anchor_check, rules_check, role_at, roles_check, theory_check};
@@ -90,11 +91,12 @@ fn check_tables<L: Layout>(layout: &L, theory: &Theory) -> Result<(), TypeFault>
     check_roles(layout, theory)
 }
 
-/// The type check of a theory.
+/// The type check of a theory. It rests on a theorem: in a well-formed context no item has two types.
 pub fn check_types<L: Layout>(layout: &L, theory: &Theory) -> Result<(), TypeFault>
     ensures answer { result ≡ theory_check (L.meaning layout.now) theory.now }
     ensures judged { Passes result (TheoryTyped (L.meaning layout.now) theory.now) }
     ensures told { First (theory_lines (L.meaning layout.now) theory.now) (numbered result) }
+    ensures regular { DeclaredOnce }
 {
     check_tables(layout, theory)
 }

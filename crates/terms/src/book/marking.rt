@@ -12,6 +12,7 @@ pub type Marks = ArrayVec<bool, MAX_ROWS>;
 
 impl Book {
     /// Marks the rows one after the other: `mark` is told the rows before, their marks, and the row.
+    // What is asked is of our own code and of no input: that the closure may be called.
     pub fn mark_rows<F: Fn(&[Row], &[bool], Row) -> bool>(&self, mark: F) -> Marks
         requires { F.IsAlwaysCallable mark }
         ensures value { Marked (F.post mark) (rows_of self.now) result.items }
