@@ -3,7 +3,7 @@ ghost use Rattle.access.specs.Faults.{number_of, row_of, access_reason, refusal_
 ghost use Rattle.access.specs.declared.faults.CheckFault.TheVariants.{Table, Typing, Access};
 
 use refusals::Refusal;
-use refusals::fault::{Fault, Reason};
+use refusals::fault::{Fault, Reason, Words};
 use std::fmt;
 use theory::faults::TableFault;
 use types::faults::TypeFault;
@@ -49,17 +49,25 @@ impl Reason for Denied {
     }
 }
 
+impl Words for Denied {
+    ghost words_of = { access_reason };
+
+    fn words(self) -> &'static str {
+        match self {
+            Denied::NotOwner => "the first argument of a memory or role fact is not the owner",
+            Denied::StaysClosed(_) => "a received seal or lock stays closed",
+            Denied::NotMakeable => "names of the family are not to be made",
+            Denied::NotBuildable(_) => "an argument cannot be built",
+        }
+    }
+}
+
 /// The reason in words.
 impl fmt::Display for Denied {
     ghost output = { λ d. Some (access_reason d) };
 
     fn fmt<W: fmt::Write>(&self, f: &mut fmt::Formatter<W>) -> fmt::Result {
-        f.write_str(match self {
-            Denied::NotOwner => "the first argument of a memory or role fact is not the owner",
-            Denied::StaysClosed(_) => "a received seal or lock stays closed",
-            Denied::NotMakeable => "names of the family are not to be made",
-            Denied::NotBuildable(_) => "an argument cannot be built",
-        })
+        f.write_str(self.words())
     }
 }
 
@@ -72,6 +80,19 @@ pub enum CheckFault {
     Table(TableFault),
     Typing(TypeFault),
     Access(AccessFault),
+}
+
+impl CheckFault {
+    /// The reason in words.
+    pub fn reason(self) -> &'static str
+        ensures { result.now ≡ reason_of self }
+    {
+        match self {
+            CheckFault::Table(fault) => fault.reason(),
+            CheckFault::Typing(fault) => fault.reason(),
+            CheckFault::Access(fault) => fault.reason(),
+        }
+    }
 }
 
 /// The six numbers of the fault.
@@ -92,11 +113,7 @@ impl fmt::Display for CheckFault {
     ghost output = { λ f. Some (reason_of f) };
 
     fn fmt<W: fmt::Write>(&self, f: &mut fmt::Formatter<W>) -> fmt::Result {
-        match self {
-            CheckFault::Table(fault) => fault.fmt(f),
-            CheckFault::Typing(fault) => fault.fmt(f),
-            CheckFault::Access(fault) => fault.fmt(f),
-        }
+        f.write_str(self.reason())
     }
 }
 

@@ -36,7 +36,8 @@ impl fmt::Display for Answer {
             Answer::Passed => write!(f, "ok"),
             Answer::Refused(fault) => {
                 let refusal = Refusal::from(*fault);
-                write!(f, "refused {refusal}: {fault}")
+                let reason = fault.reason();
+                write!(f, "refused {refusal}: {reason}")
             }
             Answer::NotUnderstood => write!(f, "not understood"),
         }

@@ -18,6 +18,19 @@ pub enum Fault {
     Check(CheckFault),
 }
 
+impl Fault {
+    /// The reason in words.
+    pub fn reason(self) -> &'static str
+        ensures { result.now ≡ reason_of self }
+    {
+        match self {
+            Fault::Book(fault) => fault.reason(),
+            Fault::List(fault) => fault.reason(),
+            Fault::Check(fault) => fault.reason(),
+        }
+    }
+}
+
 /// The six numbers of the fault.
 impl From<Fault> for Refusal {
     ghost from_gives = { λ f r. r ≡ refusal_of f };
@@ -36,11 +49,7 @@ impl fmt::Display for Fault {
     ghost output = { λ f. Some (reason_of f) };
 
     fn fmt<W: fmt::Write>(&self, f: &mut fmt::Formatter<W>) -> fmt::Result {
-        match self {
-            Fault::Book(fault) => fault.fmt(f),
-            Fault::List(fault) => fault.fmt(f),
-            Fault::Check(fault) => fault.fmt(f),
-        }
+        f.write_str(self.reason())
     }
 }
 

@@ -21,6 +21,20 @@ pub enum ListFault {
     NoMemory,
 }
 
+impl ListFault {
+    /// The reason in words.
+    pub fn reason(self) -> &'static str
+        ensures { result.now ≡ reason_of self }
+    {
+        match self {
+            ListFault::RollTooLong => "a roll has at most 512 numbers",
+            ListFault::LayerTooLong => "a layer withholds at most 32 numbers",
+            ListFault::Unfit { .. } => "a number is zero or repeated",
+            ListFault::NoMemory => "there is no memory for the list",
+        }
+    }
+}
+
 /// The six numbers of the fault.
 impl From<ListFault> for Refusal {
     ghost from_gives = { λ f r. r ≡ refusal_of f };
@@ -48,12 +62,7 @@ impl fmt::Display for ListFault {
     ghost output = { λ f. Some (reason_of f) };
 
     fn fmt<W: fmt::Write>(&self, f: &mut fmt::Formatter<W>) -> fmt::Result {
-        f.write_str(match self {
-            ListFault::RollTooLong => "a roll has at most 512 numbers",
-            ListFault::LayerTooLong => "a layer withholds at most 32 numbers",
-            ListFault::Unfit { .. } => "a number is zero or repeated",
-            ListFault::NoMemory => "there is no memory for the list",
-        })
+        f.write_str(self.reason())
     }
 }
 

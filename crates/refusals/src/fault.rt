@@ -1,4 +1,4 @@
-ghost use Rattle.std.specs.Prelude.{◌≡◌, ℕ};
+ghost use Rattle.std.specs.Prelude.{◌≡◌, ℕ, List};
 ghost use Rattle.refusals.specs.Faults.{refusal_by};
 
 use crate::Refusal;
@@ -25,6 +25,16 @@ pub trait Reason: Copy {
         ensures { result ≡ row_of self };
 }
 
+/// Why something is refused, in words.
+// Apart from `Reason`: what tells numbers need not tell words.
+pub trait Words: Copy {
+    ghost words_of: { Self → List ℕ };
+
+    /// The words. Displaying a reason may fail where the writer does; this cannot.
+    fn words(self) -> &'static str
+        ensures { result.now ≡ words_of self };
+}
+
 /// Why something is refused, and where: the role and the rule, counted from 1, and the spot in it.
 // 0 where there is none, and no Option: the six numbers are told as they stand here.
 #[derive(Clone, Copy, PartialEq, Eq)]
@@ -33,6 +43,15 @@ pub struct Fault<W> {
     pub rule: usize,
     pub spot: usize,
     pub why: W,
+}
+
+impl<W: Words> Fault<W> {
+    /// The reason in words.
+    pub fn reason(self) -> &'static str
+        ensures { result.now ≡ W.words_of self.why }
+    {
+        self.why.words()
+    }
 }
 
 /// The six numbers of a fault.

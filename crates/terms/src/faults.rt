@@ -21,6 +21,21 @@ pub enum BookFault {
     NoMemory,
 }
 
+impl BookFault {
+    /// The reason in words.
+    pub fn reason(self) -> &'static str
+        ensures { result.now ≡ reason_of self }
+    {
+        match self {
+            BookFault::OutOfRange => "the item is out of range",
+            BookFault::PartMissing => "a part or a key is no row",
+            BookFault::KeyNotItem => "the key is no item",
+            BookFault::Full => "the row is new and the book is full",
+            BookFault::NoMemory => "there is no memory for the row",
+        }
+    }
+}
+
 /// The six numbers of the fault.
 impl From<BookFault> for Refusal {
     ghost from_gives = { λ f r. r ≡ refusal_of f };
@@ -49,13 +64,7 @@ impl fmt::Display for BookFault {
     ghost output = { λ f. Some (reason_of f) };
 
     fn fmt<W: fmt::Write>(&self, f: &mut fmt::Formatter<W>) -> fmt::Result {
-        f.write_str(match self {
-            BookFault::OutOfRange => "the item is out of range",
-            BookFault::PartMissing => "a part or a key is no row",
-            BookFault::KeyNotItem => "the key is no item",
-            BookFault::Full => "the row is new and the book is full",
-            BookFault::NoMemory => "there is no memory for the row",
-        })
+        f.write_str(self.reason())
     }
 }
 

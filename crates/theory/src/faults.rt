@@ -1,7 +1,7 @@
 ghost use Rattle.std.specs.Prelude.{Some};
 ghost use Rattle.theory.specs.Faults.{layer_number, number_of, row_of, reason_of};
 
-use refusals::fault::{Fault, Reason};
+use refusals::fault::{Fault, Reason, Words};
 use std::fmt;
 
 /// What is wrong with a table.
@@ -40,14 +40,22 @@ impl Reason for Flaw {
     }
 }
 
+impl Words for Flaw {
+    ghost words_of = { reason_of };
+
+    fn words(self) -> &'static str {
+        match self {
+            Flaw::TooMany => "a count is over its limit",
+            Flaw::Missing => "a row, a predicate or an earlier argument place is missing",
+        }
+    }
+}
+
 /// The reason in words.
 impl fmt::Display for Flaw {
     ghost output = { λ w. Some (reason_of w) };
 
     fn fmt<O: fmt::Write>(&self, f: &mut fmt::Formatter<O>) -> fmt::Result {
-        f.write_str(match self {
-            Flaw::TooMany => "a count is over its limit",
-            Flaw::Missing => "a row, a predicate or an earlier argument place is missing",
-        })
+        f.write_str(self.words())
     }
 }

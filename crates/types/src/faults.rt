@@ -2,7 +2,7 @@ ghost use Rattle.std.specs.Prelude.{Some};
 ghost use Rattle.types.specs.Demands.{number_of, row_of};
 ghost use Rattle.types.specs.Reasons.{reason_of};
 
-use refusals::fault::{Fault, Reason};
+use refusals::fault::{Fault, Reason, Words};
 use std::fmt;
 
 /// What is ill about a name, an anchor, a variable, a predicate or a fact.
@@ -55,18 +55,26 @@ impl Reason for Ill {
     }
 }
 
-/// The reason in words.
-impl fmt::Display for Ill {
-    ghost output = { λ ill. Some (reason_of ill) };
+impl Words for Ill {
+    ghost words_of = { reason_of };
 
-    fn fmt<W: fmt::Write>(&self, f: &mut fmt::Formatter<W>) -> fmt::Result {
-        f.write_str(match self {
+    fn words(self) -> &'static str {
+        match self {
             Ill::Taken => "the name is zero or repeated",
             Ill::Unformed => "a type is not well formed",
             Ill::NoPrincipal => "the anchor or the first argument type is absent or no principal",
             Ill::Count => "the fact has a wrong count of arguments",
             Ill::Undeclared => "an item in the fact is not declared before",
             Ill::Lacks(_) => "a term lacks the type of its argument",
-        })
+        }
+    }
+}
+
+/// The reason in words.
+impl fmt::Display for Ill {
+    ghost output = { λ ill. Some (reason_of ill) };
+
+    fn fmt<W: fmt::Write>(&self, f: &mut fmt::Formatter<W>) -> fmt::Result {
+        f.write_str(self.words())
     }
 }
