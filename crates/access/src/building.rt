@@ -2,6 +2,7 @@ ghost use Rattle.std.specs.Prelude.{◌≡◌, ◌+◌, ◌^◌, ◌<◌, false,
 ghost use Rattle.std.specs.List.{find, position_from};
 ghost use Rattle.terms.specs.Numbered.{at};
 ghost use Rattle.terms.specs.Held.{rows_of};
+ghost use Rattle.terms.specs.Marks.{marks_of};
 ghost use Rattle.access.specs.Places.{setting_of};
 ghost use Rattle.access.specs.Tests.{closed_rows_check, all_made_check, is_made, can_build, can_rows, arguments_check, all_built_check};
 
@@ -62,7 +63,7 @@ impl Builder<'_> {
 
     /// Which rows can be built.
     pub(crate) fn buildable_rows(self, book: &Book) -> Marks
-        ensures { result.items ≡ can_rows self.entry.owner self.entry.universal self.entry.made self.entry.held.now (rows_of book.now) }
+        ensures { marks_of result ≡ can_rows self.entry.owner self.entry.universal self.entry.made self.entry.held.now (rows_of book.now) }
     {
         book.mark_rows(|seen, can, row| self.can_build(seen.len() + 1, can, row))
     }

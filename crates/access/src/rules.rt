@@ -1,6 +1,7 @@
 ghost use Rattle.std.specs.Prelude.{◌≡◌, length};
 ghost use Rattle.refusals.specs.Demands.{First};
 ghost use Rattle.terms.specs.Held.{rows_of};
+ghost use Rattle.terms.specs.Marks.{marks_of};
 ghost use Rattle.access.specs.Demands.{parts_of, rule_lines, rules_lines, roles_lines};
 ghost use Rattle.access.specs.Places.{setting_of};
 ghost use Rattle.access.specs.Tabled.{PartsTabled, RulesTabled, RolesTabled};
@@ -21,7 +22,7 @@ impl<L: Layout> Setting<'_, L> {
     /// of.
     fn check_reading(&self, rule: &Rule, reading: &Reading) -> Result<(), AccessFault>
         requires { PartsTabled (length (rows_of self.now.book.now)) (parts_of rule.now) }
-        ensures { result ≡ reading_check (L.meaning self.now.layout.now) (setting_of self.now) reading.now.held.items reading.now.closed.items (parts_of rule.now) }
+        ensures { result ≡ reading_check (L.meaning self.now.layout.now) (setting_of self.now) (marks_of reading.now.held) (marks_of reading.now.closed) (parts_of rule.now) }
     {
         self.check_closed(reading.closed.as_slice())?;
         let made = rule.made.as_slice();

@@ -1,6 +1,7 @@
 ghost use Rattle.std.specs.Prelude.{◌≡◌, Some};
 ghost use Rattle.judgments.specs.Access.{first_of, second_of};
 ghost use Rattle.terms.specs.Held.{rows_of};
+ghost use Rattle.terms.specs.Marks.{marks_of};
 ghost use Rattle.theory.specs.Owners.{owner_item};
 ghost use Rattle.types.specs.Types.{items};
 ghost use Rattle.reading.specs.Grants.{above_grants, grants_by, type_granted, entry_grants, item_granted, row_granted, granted_rows};
@@ -102,7 +103,7 @@ impl<L: Layout> Reader<'_, L> {
 
     /// Which rows are items that are granted to the owner.
     pub(crate) fn granted_rows(&self, book: &Book) -> Marks
-        ensures { result.items ≡ granted_rows (L.meaning self.now.layout.now) self.now.scope.now self.now.owner (rows_of book.now) }
+        ensures { marks_of result ≡ granted_rows (L.meaning self.now.layout.now) self.now.scope.now self.now.owner (rows_of book.now) }
     {
         book.mark_rows(|_, _, row| self.is_row_granted(row))
     }

@@ -4,7 +4,6 @@ use Rattle.std.specs.List.{position_from}
 use Rattle.earliest.specs.Places.{earliest}
 use Rattle.terms.specs.Rows.{same_row}
 use Rattle.terms.specs.contracts.row.RowPartialEq.TheImpl as derived
-use Rattle.terms.specs.declared.row.Item.{Item}
 use Rattle.terms.specs.declared.row.Item.TheVariants as item
 use Rattle.terms.specs.declared.row.Row.{Row}
 use Rattle.terms.specs.declared.row.Row.TheVariants as row

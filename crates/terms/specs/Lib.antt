@@ -4,6 +4,7 @@ pub mod Rows
 pub mod Faults
 pub mod Books
 pub mod Held
+pub mod Marks
 pub mod Filling
 pub mod Adding
 pub mod Standing

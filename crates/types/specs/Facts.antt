@@ -5,6 +5,7 @@ use Rattle.std.specs.List.{list_all}
 use Rattle.std.specs.Option.{option_and_then, unwrap_or}
 use Rattle.terms.specs.Rows.{row_item}
 use Rattle.terms.specs.Held.{rows_of}
+use Rattle.terms.specs.Marks.{marks_of}
 use Rattle.types.specs.Forms.{mapped}
 use Rattle.types.specs.Scopes.{Declarations, scope_type}
 use Rattle.types.specs.Rows.{at, row_at, fill}
@@ -40,7 +41,7 @@ pub record Ledger : Type 0 where
   pub message : List Bool
 
 abbrev pub ledger_of : Marked → Ledger
-ledger_of m = record { rows = rows_of m.book.now; known = m.known.items; message = m.message.items }
+ledger_of m = record { rows = rows_of m.book.now; known = marks_of m.known; message = marks_of m.message }
 
 abbrev pub ledger : Meaning → Declarations → List Row → Ledger
 ledger lay s rows = record { rows = rows; known = knowns s rows; message = marks lay s rows }

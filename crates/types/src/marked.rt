@@ -16,7 +16,7 @@ use theory::data::Ty;
 /// A book, its rows marked over a scope: whether all items in a row's term are declared, and
 /// whether the term has msg.
 // Two marks beside each other, and no list of pairs: a row's mark is told by those of its own kind.
-#[derive(Drop)]
+#[derive(Clone, Copy)]
 pub struct Marked<'a> {
     pub scope: Scope<'a>,
     pub book: &'a Book,

@@ -1,4 +1,5 @@
 use Rattle.std.proofs.Common.{◌≡◌, length, vec_items, ap, ◌∙◌, arith}
+use Rattle.terms.specs.Marks.{marks_of}
 use Rattle.access.specs.Demands.{parts_of}
 use Rattle.access.specs.Places.{setting_of}
 use Rattle.access.specs.Tests.{closed_rows_check, can_rows}
@@ -9,8 +10,8 @@ pub returns : goal.returns
 returns g c =
     let e = setting_of c.args.self.now in
     let R = c.args.rule.now in
-    let held = c.args.reading.now.held.items in
-    let closed = c.args.reading.now.closed.items in
+    let held = marks_of c.args.reading.now.held in
+    let closed = marks_of c.args.reading.now.closed in
     let u = c.len-universal.result in
     let made = c.as_slice-made.result.now in
     let us : u ≡ length (vec_items R.universal) = omega (arith, c.len-universal.ensures, R.universal.ok.0) in

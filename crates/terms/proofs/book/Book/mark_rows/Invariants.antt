@@ -4,5 +4,5 @@ use Rattle.terms.proofs.book.Book.mark_rows.Given as goal
 
 abbrev pub invariant-loop-i : goal.invariant-loop-i
 invariant-loop-i g l =
-    (length l.marks.items ≡ l.i)
-    × ((f : _) → Gives (goal.F-post g l.mark) f → fill f (take l.i l.rows) l.marks.items (drop l.i l.rows) ≡ fill f [] [] l.rows)
+    (length l.on ≡ 512)
+    × ((f : _) → Gives (goal.F-post g l.mark) f → fill f (take l.i l.rows) (take l.i l.on) (drop l.i l.rows) ≡ fill f [] [] l.rows)

@@ -1,4 +1,4 @@
-use Rattle.std.proofs.Common.{vec_items, rules}
+use Rattle.std.proofs.Common.{vec_items}
 use Rattle.terms.proofs.Exactly.{book_exact}
 use Rattle.terms.proofs.book.Book.row.Goals as goal
 
