@@ -7,7 +7,7 @@ use Rattle.std.proofs.lemmas.Bool.{and_parts, or_cases, or_left, or_right, eqb-t
 use Rattle.layouts.specs.Laws.{Lawful}
 use Rattle.layouts.specs.Tables.{lacked, grants_by, line_at, params_of, meaning_by}
 use Rattle.layouts.specs.declared.table.Grant.{Grant}
-use Rattle.layouts.specs.declared.table.Grant.TheVariants.{Nobody, Everybody, Either, OfFirst}
+use Rattle.layouts.specs.declared.table.Grant.TheVariants.{Nobody, Everybody, First, Either, OfFirst}
 use Rattle.layouts.specs.declared.table.Line.{Line}
 use Rattle.layouts.specs.declared.layout.Kind.{Kind}
 use Rattle.layouts.specs.declared.layout.Kind.TheVariants.{Plain, Sealing, Locking}
@@ -33,6 +33,7 @@ is_plain (Locking G) = false
 abbrev is_nobody : Grant → Bool
 is_nobody Nobody = true
 is_nobody Everybody = false
+is_nobody First = false
 is_nobody Either = false
 is_nobody OfFirst = false
 
@@ -79,6 +80,7 @@ plain_is (Locking G) e = clash (cc)
 nobody_is : (g : Grant) → is_nobody g ≡ true → g ≡ Nobody
 nobody_is Nobody e = refl
 nobody_is Everybody e = clash (cc)
+nobody_is First e = clash (cc)
 nobody_is Either e = clash (cc)
 nobody_is OfFirst e = clash (cc)
 
@@ -112,6 +114,7 @@ same_kept f a b e = eq-eqb (f a) (f b) (ap f (eqb-true a b e))
 grant_kept : (g : Grant) (f : ℕ → ℕ) (o a b c : ℕ) → grants_by g o a b c ≡ true → grants_by g (f o) (f a) (f b) (f c) ≡ true
 grant_kept Nobody f o a b c e = e
 grant_kept Everybody f o a b c e = e
+grant_kept First f o a b c e = same_kept f o a e
 grant_kept Either f o a b c e =
     ⊎_elim
     (λ l. or_left (f o == f a) (f o == f b) (same_kept f o a l))

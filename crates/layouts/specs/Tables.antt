@@ -4,16 +4,17 @@ use Rattle.layouts.specs.Meanings.{Meaning, listed}
 use Rattle.layouts.specs.declared.layout.Kind.TheVariants.{Plain}
 use Rattle.layouts.specs.declared.layout.Params.TheVariants.{Zero}
 use Rattle.layouts.specs.declared.table.Grant.{Grant}
-use Rattle.layouts.specs.declared.table.Grant.TheVariants.{Nobody, Everybody, Either, OfFirst}
+use Rattle.layouts.specs.declared.table.Grant.TheVariants.{Nobody, Everybody, First, Either, OfFirst}
 use Rattle.layouts.specs.declared.table.Line.{Line}
 
 abbrev pub lacked : Line
 lacked = record { params = Zero; sendable = false; kind = Plain; makeable = false; granted = Nobody }
 
--- Granted to nobody, to everybody, to either parameter, or to the first parameter of the first.
+-- Granted to nobody, to everybody, to the first parameter, to either parameter, or to the first parameter of the first.
 abbrev pub grants_by : Grant → ℕ → ℕ → ℕ → ℕ → Bool
 grants_by Nobody o a b c = false
 grants_by Everybody o a b c = true
+grants_by First o a b c = o == a
 grants_by Either o a b c = o == a || o == b
 grants_by OfFirst o a b c = o == c
 

@@ -8,6 +8,8 @@ use crate::layout::{Kind, Params};
 pub enum Grant {
     Nobody,
     Everybody,
+    /// The first parameter.
+    First,
     /// The first parameter, or the second.
     Either,
     /// The first parameter of the first one's type.
@@ -23,6 +25,7 @@ impl Grant {
         match self {
             Grant::Nobody => false,
             Grant::Everybody => true,
+            Grant::First => owner == first,
             Grant::Either => owner == first || owner == second,
             Grant::OfFirst => owner == of_first,
         }
