@@ -36,12 +36,14 @@ pub(crate) fn item_type(scope: Scope, item: Item) -> Option<Ty>
             Owner::Generic => Some(plain(PRINCIPAL)),
             Owner::Anchored(n) => name_type(scope.names, n),
         },
-        Item::Variable(v) => scope
-            .universal
-            .iter()
-            .chain(scope.made)
-            .nth(v as usize - 1)
-            .copied(),
+        // By index, and no `nth` of a chain: that walks through the variables before.
+        Item::Variable(v) => {
+            let place = v as usize - 1;
+            match scope.universal.get(place) {
+                Some(of) => Some(*of),
+                None => scope.made.get(place - scope.universal.len()).copied(),
+            }
+        }
     }
 }
 
