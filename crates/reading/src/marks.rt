@@ -32,7 +32,8 @@ fn opens_now(got: &[bool], key: Item, opener: Option<Opener>) -> bool
 fn count(marks: &[bool]) -> usize
     ensures { result ≡ ons marks.now }
 {
-    marks.iter().filter(|mark| **mark).count()
+    // A sum, and no `filter` with `count`: it adds several marks at a time.
+    marks.iter().map(|mark| usize::from(*mark)).sum()
 }
 
 impl View<'_> {
