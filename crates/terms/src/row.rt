@@ -1,6 +1,8 @@
 ghost use Rattle.std.specs.Prelude.{◌≡◌};
 ghost use Rattle.earliest.specs.Places.{earliest};
 ghost use Rattle.terms.specs.Rows.{same_row, row_item};
+ghost use Rattle.terms.specs.declared.row.Item.TheVariants.{Name};
+ghost use Rattle.terms.specs.declared.row.Row.TheVariants as row;
 
 use earliest::earliest_place;
 
@@ -28,6 +30,8 @@ pub enum Row {
 
 /// Name 0, which is in no book: what an unused place of a list has.
 impl Default for Item {
+    ghost is_default = { λ i. i ≡ Name 0 };
+
     fn default() -> Item {
         Item::Name(0)
     }
@@ -35,6 +39,8 @@ impl Default for Item {
 
 /// The row of no item, which is in no book: what an unused place of a list has.
 impl Default for Row {
+    ghost is_default = { λ r. r ≡ row.Item (Name 0) };
+
     fn default() -> Row {
         Row::Item(Item::default())
     }
